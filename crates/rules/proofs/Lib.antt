@@ -1,0 +1,4 @@
+pub mod Tests
+pub mod Lists
+pub mod Tables
+pub mod Places

@@ -1,0 +1,89 @@
+-- Document 01's number and values for each case of each answer. The promises read answers through these. Assumes nothing.
+use Prim.Native.Nat.{ℕ}
+use mathlib.Core.Option.{Option, some, none}
+use Rattle.rules.specs.declared.Record.{Record}
+use Rattle.rules.specs.declared.Point.{Point}
+use Rattle.rules.specs.declared.PlotPoint.{PlotPoint}
+use Rattle.rules.specs.declared.Event.{Event}
+use Rattle.rules.specs.declared.Sums.{Sums}
+use Rattle.rules.specs.declared.Refusal.{Refusal}
+use Rattle.rules.specs.declared.Refusal.the-variants as refusal
+use Rattle.rules.specs.declared.Started.{Started}
+use Rattle.rules.specs.declared.Started.the-variants as started
+use Rattle.rules.specs.declared.Answer.{Answer}
+use Rattle.rules.specs.declared.Answer.the-variants as answer
+use Rattle.rules.specs.declared.Pointed.{Pointed}
+use Rattle.rules.specs.declared.Pointed.the-variants as pointed
+use Rattle.rules.specs.declared.Plotted.{Plotted}
+use Rattle.rules.specs.declared.Plotted.the-variants as plotted
+use Rattle.rules.specs.declared.Taken.{Taken}
+use Rattle.rules.specs.declared.Taken.the-variants as taken
+use Rattle.rules.specs.declared.Reading.{Reading}
+use Rattle.rules.specs.declared.Reading.the-variants as reading
+use Rattle.rules.specs.declared.Written.{Written}
+use Rattle.rules.specs.declared.Written.the-variants as written
+use Rattle.rules.specs.declared.Found.{Found}
+use Rattle.rules.specs.declared.Found.the-variants as found
+use Rattle.rules.specs.declared.Reported.{Reported}
+use Rattle.rules.specs.declared.Reported.the-variants as reported
+use Rattle.rules.specs.Reference.{Reply, skipped, first, again}
+
+-- what a call says: a refusal, by its number, or what the call is for
+pub data Said (A : Type 0) : Type 0 where
+  refused : ℕ → Said A
+  gives : A → Said A
+
+abbrev pub number : Refusal → ℕ
+number refusal.Settings = 1
+number refusal.Tables = 2
+number refusal.Torn = 3
+number refusal.Full = 4
+number refusal.Stale = 5
+number refusal.Point = 6
+number refusal.Short = 7
+number refusal.Kind = 8
+number refusal.Empty = 9
+
+-- an event with the number of bytes it took
+pub record Got : Type 0 where
+  pub event : Event
+  pub taken : ℕ
+
+abbrev pub saidStarted : Started → Said Record
+saidStarted (started.Ready k) = gives k
+saidStarted (started.Refused r) = refused (number r)
+
+abbrev pub saidAnswer : Answer → Said Reply
+saidAnswer answer.Skipped = gives skipped
+saidAnswer (answer.Again d) = gives (again d)
+saidAnswer answer.First = gives first
+saidAnswer (answer.Refused r) = refused (number r)
+
+abbrev pub saidPointed : Pointed → Said Point
+saidPointed (pointed.At p) = gives p
+saidPointed (pointed.Refused r) = refused (number r)
+
+abbrev pub saidPlotted : Plotted → Said PlotPoint
+saidPlotted (plotted.At p) = gives p
+saidPlotted (plotted.Refused r) = refused (number r)
+
+abbrev pub saidTaken : Taken → Said (Unit {0})
+saidTaken taken.Whole = gives tt
+saidTaken (taken.Refused r) = refused (number r)
+
+abbrev pub saidReading : Reading → Said Got
+saidReading (reading.Got e n) = gives (record { event = e; taken = n })
+saidReading (reading.Refused r) = refused (number r)
+
+abbrev pub saidWritten : Written → Said ℕ
+saidWritten (written.Filled n) = gives n
+saidWritten (written.Refused r) = refused (number r)
+
+abbrev pub saidReported : Reported → Said Sums
+saidReported (reported.Sums s) = gives s
+saidReported reported.Torn = refused 3
+
+-- the place that a search found
+abbrev pub placeFound : Found → Option ℕ
+placeFound (found.At d) = some d
+placeFound found.Nothing = none

@@ -1,0 +1,9 @@
+pub mod Lists
+pub mod Settings
+pub mod Reference
+pub mod Curve
+pub mod Answers
+pub mod Events
+pub mod Refusals
+pub mod History
+pub mod Cache

@@ -1,0 +1,85 @@
+-- Document 01, "Settings and numbers". Assumes nothing.
+use Prim.Native.Nat.{ℕ, _+_, _-_, _*_, _/_, _%_, _^_}
+use mathlib.Core.Bool.{Bool, cond, _||_}
+use mathlib.Core.List.{List}
+use lib.Bits.{bitXor}
+use lib.Dec.{eqb, ltb}
+use lib.ListN.{length}
+use Rattle.rules.specs.declared.Hashing.{Hashing}
+use Rattle.rules.specs.declared.Settings.{Settings}
+use Rattle.rules.specs.declared.Numbers.{Numbers}
+
+abbrev pub P : ℕ
+P = 2 ^ 24
+
+-- a setting of zero means its default
+abbrev pub orDefault : (default setting : ℕ) → ℕ
+orDefault default setting = cond (eqb setting 0) default setting
+
+-- the settings after defaults; the hash kind has none
+unfoldable pub withDefaults : Settings → Settings
+withDefaults s = record {
+  limit = orDefault 1024 (s .limit);
+  start = orDefault 1677721 (s .start);
+  width = orDefault 1 (s .width);
+  buckets = orDefault 256 (s .buckets);
+  hashing = s .hashing;
+}
+
+-- the hash kind is neither 0 nor 1
+abbrev pub unknownHash : Hashing → Bool
+unknownHash h = ltb 1 (h .kind)
+
+-- after defaults, a setting is outside its range
+unfoldable pub outOfRange : Settings → Bool
+outOfRange s =
+    eqb (s .limit) 0 || ltb 8192 (s .limit)
+    || eqb (s .start) 0 || ltb P (s .start)
+    || eqb (s .width) 0 || ltb (2 ^ 32 - 1) (s .width)
+    || eqb (s .buckets) 0 || ltb 10000 (s .buckets)
+    || unknownHash (s .hashing)
+
+-- x xor (x shifted right 33)
+unfoldable pub shiftStep : ℕ → ℕ
+shiftStep x = bitXor x (x / 2 ^ 33)
+
+-- the product modulo 2^64
+abbrev pub times : (x m : ℕ) → ℕ
+times x m = x * m % 2 ^ 64
+
+-- the 64-bit finaliser of MurmurHash3
+unfoldable pub finaliser : ℕ → ℕ
+finaliser x = shiftStep (times (shiftStep (times (shiftStep x) 0xff51_afd7_ed55_8ccd)) 0xc4ce_b9fe_1a85_ec53)
+
+-- the hash of a location: of kind 0 the location, of kind 1 its finaliser, modulo P
+unfoldable pub hashOf : Hashing → ℕ → ℕ
+hashOf h location = cond (eqb (h .kind) 0) (location % P) (finaliser location % P)
+
+-- the two bucket tables
+pub record Histogram : Type 0 where
+  pub counts : List ℕ
+  pub thresholds : List ℕ
+
+-- the lent tables
+pub record Tables : Type 0 where
+  pub locations : List ℕ
+  pub histogram : Histogram
+
+-- how many entries a bucket table needs: the buckets, far and first
+abbrev pub needed : (buckets : ℕ) → ℕ
+needed buckets = buckets + 2
+
+-- a bucket table is shorter than needed
+abbrev pub bucketsTooShort : Settings → Histogram → Bool
+bucketsTooShort s g = ltb (length (g .counts)) (needed (s .buckets)) || ltb (length (g .thresholds)) (needed (s .buckets))
+
+-- a lent table is shorter than needed
+abbrev pub tooShort : Settings → Tables → Bool
+tooShort s t = ltb (length (t .locations)) (s .limit) || bucketsTooShort s (t .histogram)
+
+-- at most 2^32 - 1 references are made in a run
+abbrev pub mostReferences : ℕ
+mostReferences = 2 ^ 32 - 1
+
+abbrev pub full : Numbers → Bool
+full n = eqb (n .references) mostReferences

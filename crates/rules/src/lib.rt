@@ -1,0 +1,153 @@
+// The types that every crate shares: settings, the record, the answers, the trace events. Nothing here runs.
+
+// Which hash a location gets.
+pub struct Hashing {
+    pub kind: u64,
+}
+
+// The settings: sample limit S, starting threshold T0, bucket width W in blocks, buckets B, and the hash.
+pub struct Settings {
+    pub limit: u64,
+    pub start: u64,
+    pub width: u64,
+    pub buckets: u64,
+    pub hashing: Hashing,
+}
+
+// How many references there were since the fresh start, and how many of them were sampled.
+pub struct Numbers {
+    pub references: u64,
+    pub sampled: u64,
+}
+
+// The record: what a tracker holds beside its tables. Its settings are those after defaults.
+pub struct Record {
+    pub settings: Settings,
+    pub threshold: u64,
+    pub live: u64,
+    pub numbers: Numbers,
+}
+
+// The shape that a caller believes the curve to have.
+pub struct Shape {
+    pub buckets: u64,
+    pub width: u64,
+}
+
+// The refusals, by name.
+pub enum Refusal {
+    Settings,
+    Tables,
+    Torn,
+    Full,
+    Stale,
+    Point,
+    Short,
+    Kind,
+    Empty,
+}
+
+// The answer to a setup or a restart.
+pub enum Started {
+    Ready(Record),
+    Refused(Refusal),
+}
+
+// The answer to a reference.
+pub enum Answer {
+    Skipped,
+    Again(u64),
+    First,
+    Refused(Refusal),
+}
+
+// The answer to a reference, with the record as it is then.
+pub struct Referred {
+    pub record: Record,
+    pub answer: Answer,
+}
+
+// A point of the curve: its size in blocks, and hits, misses and total in units of 1/256 reference.
+pub struct Point {
+    pub size: u64,
+    pub hits: u64,
+    pub misses: u64,
+    pub total: u64,
+}
+
+// The answer to a point asked for.
+pub enum Pointed {
+    At(Point),
+    Refused(Refusal),
+}
+
+// A point as the desk plotter takes it: the size, and misses divided by total.
+pub struct PlotPoint {
+    pub size: f64,
+    pub ratio: f64,
+}
+
+// The answer to a point asked for as a pair of doubles.
+pub enum Plotted {
+    At(PlotPoint),
+    Refused(Refusal),
+}
+
+// The answer to a trace event: all of it was taken, or one of its calls refused.
+pub enum Taken {
+    Whole,
+    Refused(Refusal),
+}
+
+// The answer to a trace event, with the record as it is then.
+pub struct Applied {
+    pub record: Record,
+    pub answer: Taken,
+}
+
+// The body of a kind 4 event, as its bytes have it: zeros are zeros still.
+pub struct Body {
+    pub limit: u32,
+    pub start: u32,
+    pub width: u32,
+    pub buckets: u32,
+    pub kind: u8,
+}
+
+// The trace events, kinds 1 to 4.
+pub enum Event {
+    Location(u64),
+    Span { offset: u64, length: u32 },
+    Restart,
+    Setup(Body),
+}
+
+// The answer of reading: an event with the number of bytes it took, or a refusal.
+pub enum Reading {
+    Got(Event, usize),
+    Refused(Refusal),
+}
+
+// The answer of writing: how many bytes were filled, or a refusal.
+pub enum Written {
+    Filled(usize),
+    Refused(Refusal),
+}
+
+// The answer of the search: a place, counted from 0, or that there is none.
+pub enum Found {
+    At(usize),
+    Nothing,
+}
+
+// The report's sums: hits to a point, and the total.
+pub struct Sums {
+    pub hits: u64,
+    pub total: u64,
+}
+
+// The answer of the report: its sums, or that the buckets are torn.
+pub enum Reported {
+    Sums(Sums),
+    Torn,
+}
