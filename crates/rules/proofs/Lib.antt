@@ -1,4 +1,5 @@
 pub mod Tests
+pub mod Answers
 pub mod Lists
 pub mod Tables
 pub mod Places

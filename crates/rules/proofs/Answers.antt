@@ -1,0 +1,121 @@
+-- The reading of each answer is injective: what a promise says of an answer's number and values decides the answer. Assumes nothing.
+use Prim.Native.Nat.{ℕ}
+use mathlib.Core.Path.{_≡_, refl, sym, ap, _∙_}
+use mathlib.Core.Bool.{cond}
+use mathlib.Core.Option.{Option, some, none}
+use lib.Dec.{eqb}
+use Rattle.rules.specs.declared.Record.{Record}
+use Rattle.rules.specs.declared.Point.{Point}
+use Rattle.rules.specs.declared.PlotPoint.{PlotPoint}
+use Rattle.rules.specs.declared.Sums.{Sums}
+use Rattle.rules.specs.declared.Refusal.{Refusal}
+use Rattle.rules.specs.declared.Refusal.the-variants as refusal
+use Rattle.rules.specs.declared.Started.{Started}
+use Rattle.rules.specs.declared.Started.the-variants as started
+use Rattle.rules.specs.declared.Answer.{Answer}
+use Rattle.rules.specs.declared.Answer.the-variants as answer
+use Rattle.rules.specs.declared.Pointed.{Pointed}
+use Rattle.rules.specs.declared.Pointed.the-variants as pointed
+use Rattle.rules.specs.declared.Plotted.{Plotted}
+use Rattle.rules.specs.declared.Plotted.the-variants as plotted
+use Rattle.rules.specs.declared.Taken.{Taken}
+use Rattle.rules.specs.declared.Taken.the-variants as taken
+use Rattle.rules.specs.declared.Reading.{Reading}
+use Rattle.rules.specs.declared.Reading.the-variants as reading
+use Rattle.rules.specs.declared.Written.{Written}
+use Rattle.rules.specs.declared.Written.the-variants as written
+use Rattle.rules.specs.declared.Found.{Found}
+use Rattle.rules.specs.declared.Found.the-variants as found
+use Rattle.rules.specs.declared.Reported.{Reported}
+use Rattle.rules.specs.declared.Reported.the-variants as reported
+use Rattle.rules.specs.Reference.{Reply, skipped, first, again}
+use Rattle.rules.specs.Answers.{Said, refused, gives, number, Got, saidStarted, saidAnswer, saidPointed, saidPlotted, saidTaken, saidReading, saidWritten, saidReported, placeFound}
+
+-- what undoes a reading makes it injective
+undone : {A B : Type 0} (f : A → B) (g : B → A) → ((a : A) → g (f a) ≡ a) → (a b : A) → f a ≡ f b → a ≡ b
+undone f g e a b q = sym (e a) ∙ ap g q ∙ e b
+
+-- the refusal of a number
+named : ℕ → Refusal
+named n =
+    cond (eqb n 1) refusal.Settings
+    (cond (eqb n 2) refusal.Tables
+    (cond (eqb n 3) refusal.Torn
+    (cond (eqb n 4) refusal.Full
+    (cond (eqb n 5) refusal.Stale
+    (cond (eqb n 6) refusal.Point
+    (cond (eqb n 7) refusal.Short
+    (cond (eqb n 8) refusal.Kind refusal.Empty)))))))
+
+named-number : (r : Refusal) → named (number r) ≡ r
+unfolding named
+named-number refusal.Settings = refl
+named-number refusal.Tables = refl
+named-number refusal.Torn = refl
+named-number refusal.Full = refl
+named-number refusal.Stale = refl
+named-number refusal.Point = refl
+named-number refusal.Short = refl
+named-number refusal.Kind = refl
+named-number refusal.Empty = refl
+
+pub number-injective : (a b : Refusal) → number a ≡ number b → a ≡ b
+number-injective = undone number named named-number
+
+-- an answer back from what it says: refusals by their number, the rest by its own constructor
+back : {A B : Type 0} → (Refusal → B) → (A → B) → Said A → B
+back refusing giving (refused n) = refusing (named n)
+back refusing giving (gives a) = giving a
+
+pub started-injective : (a b : Started) → saidStarted a ≡ saidStarted b → a ≡ b
+unfolding back
+started-injective = undone saidStarted (back started.Refused started.Ready)
+    (elim [ started.Ready k ↦ refl | started.Refused r ↦ ap started.Refused (named-number r) ])
+
+replied : Reply → Answer
+replied skipped = answer.Skipped
+replied first = answer.First
+replied (again d) = answer.Again d
+
+pub answer-injective : (a b : Answer) → saidAnswer a ≡ saidAnswer b → a ≡ b
+unfolding back replied
+answer-injective = undone saidAnswer (back answer.Refused replied)
+    (elim [ answer.Skipped ↦ refl | answer.Again d ↦ refl | answer.First ↦ refl | answer.Refused r ↦ ap answer.Refused (named-number r) ])
+
+pub pointed-injective : (a b : Pointed) → saidPointed a ≡ saidPointed b → a ≡ b
+unfolding back
+pointed-injective = undone saidPointed (back pointed.Refused pointed.At)
+    (elim [ pointed.At p ↦ refl | pointed.Refused r ↦ ap pointed.Refused (named-number r) ])
+
+pub plotted-injective : (a b : Plotted) → saidPlotted a ≡ saidPlotted b → a ≡ b
+unfolding back
+plotted-injective = undone saidPlotted (back plotted.Refused plotted.At)
+    (elim [ plotted.At p ↦ refl | plotted.Refused r ↦ ap plotted.Refused (named-number r) ])
+
+pub taken-injective : (a b : Taken) → saidTaken a ≡ saidTaken b → a ≡ b
+unfolding back
+taken-injective = undone saidTaken (back taken.Refused (λ (u : Unit {0}). taken.Whole))
+    (elim [ taken.Whole ↦ refl | taken.Refused r ↦ ap taken.Refused (named-number r) ])
+
+pub reading-injective : (a b : Reading) → saidReading a ≡ saidReading b → a ≡ b
+unfolding back
+reading-injective = undone saidReading (back reading.Refused (λ (g : Got). reading.Got (g .event) (g .taken)))
+    (elim [ reading.Got e n ↦ refl | reading.Refused r ↦ ap reading.Refused (named-number r) ])
+
+pub written-injective : (a b : Written) → saidWritten a ≡ saidWritten b → a ≡ b
+unfolding back
+written-injective = undone saidWritten (back written.Refused written.Filled)
+    (elim [ written.Filled n ↦ refl | written.Refused r ↦ ap written.Refused (named-number r) ])
+
+pub reported-injective : (a b : Reported) → saidReported a ≡ saidReported b → a ≡ b
+unfolding back
+reported-injective = undone saidReported (back (λ (r : Refusal). reported.Torn) reported.Sums)
+    (elim [ reported.Sums s ↦ refl | reported.Torn ↦ refl ])
+
+place : Option ℕ → Found
+place (some d) = found.At d
+place none = found.Nothing
+
+pub found-injective : (a b : Found) → placeFound a ≡ placeFound b → a ≡ b
+unfolding place
+found-injective = undone placeFound place (elim [ found.At d ↦ refl | found.Nothing ↦ refl ])
