@@ -3,3 +3,5 @@ pub mod Answers
 pub mod Lists
 pub mod Tables
 pub mod Places
+pub mod History
+pub mod Steps
