@@ -5,3 +5,6 @@ pub mod Tables
 pub mod Places
 pub mod History
 pub mod Steps
+pub mod Cache
+pub mod Buckets
+pub mod FullRate

@@ -47,6 +47,11 @@ module _ (hash : ℕ → ℕ) (limit : ℕ) (f : Profile) (x : ℕ) (s : Sample)
     unfolding sampled
     step-first m = step-sampled ∙ rw (place-out x (s .live) m)
 
+-- a lowering changes no bucket
+pub settled-histogram : (hash : ℕ → ℕ) (limit t : ℕ) (l : List ℕ) (g : Histogram) → settled hash limit t l g .histogram ≡ g
+unfolding settled
+settled-histogram hash limit t l g = cases (ltb limit (length l)) (λ o. rw o) (λ o. rw o)
+
 -- ---- a lowering
 
 -- the largest hash: all hash below what is above it
