@@ -8,3 +8,7 @@ pub mod Steps
 pub mod Cache
 pub mod Buckets
 pub mod FullRate
+pub mod Fresh
+pub mod Clean
+pub mod Bounds
+pub mod Calls

@@ -93,18 +93,6 @@ pub enum Plotted {
     Refused(Refusal),
 }
 
-// The answer to a trace event: all of it was taken, or one of its calls refused.
-pub enum Taken {
-    Whole,
-    Refused(Refusal),
-}
-
-// The answer to a trace event, with the record as it is then.
-pub struct Applied {
-    pub record: Record,
-    pub answer: Taken,
-}
-
 // The body of a kind 4 event, as its bytes have it: zeros are zeros still.
 pub struct Body {
     pub limit: u32,
@@ -132,6 +120,18 @@ pub enum Reading {
 pub enum Written {
     Filled(usize),
     Refused(Refusal),
+}
+
+// The answer to a trace event: all of it was taken, or one of its calls refused.
+pub enum Taken {
+    Whole,
+    Refused(Refusal),
+}
+
+// The answer to a trace event, with the record as it is then.
+pub struct Applied {
+    pub record: Record,
+    pub answer: Taken,
 }
 
 // The answer of the search: a place, counted from 0, or that there is none.

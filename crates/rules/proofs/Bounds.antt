@@ -1,0 +1,130 @@
+-- What is known once a test on the record, the tables or a bucket was passed. Assumes nothing.
+use Prim.Native.Nat.{ℕ, _+_, _*_, _^_, _≤_, _<_}
+use mathlib.Core.Path.{_≡_, refl, sym, ap, _∙_}
+use mathlib.Core.Bool.{true, false, _||_}
+use native.Mathlib.Nat.{mul-le-mul-left, le-trans}
+use native.Mathlib.Omega.{arith}
+use lib.ListN.{length}
+use lib.Dec.{eqb, ltb}
+use borrow.Author.Tests.{eqb-false, ltb-false, ne-eqb, le-ltb}
+use Rattle.rules.specs.declared.Settings.{Settings}
+use Rattle.rules.specs.declared.Record.{Record}
+use Rattle.rules.specs.Settings.{P, outOfRange, Histogram, Tables, needed, bucketsTooShort, tooShort, mostReferences}
+use Rattle.rules.specs.Refusals.{tornRecord, tornBucket}
+use Rattle.rules.proofs.Tests.{neither, or-neither}
+use Rattle.rules.proofs.Buckets.{Long}
+
+-- settings in their ranges
+pub record InRange (s : Settings) : Type 0 where
+  pub limit-low : s .limit ≡ 0 → ⊥
+  pub limit-high : s .limit ≤ 8192
+  pub start-low : s .start ≡ 0 → ⊥
+  pub start-high : s .start ≤ 16777216
+  pub width-low : s .width ≡ 0 → ⊥
+  pub width-high : s .width ≤ 4294967295
+  pub buckets-low : s .buckets ≡ 0 → ⊥
+  pub buckets-high : s .buckets ≤ 10000
+  pub kind-high : s .hashing .kind ≤ 1
+
+pub in-range : (s : Settings) → outOfRange s ≡ false → InRange s
+unfolding outOfRange
+in-range s e =
+    let p9 = neither e in
+    let p8 = neither (p9 .0) in
+    let p7 = neither (p8 .0) in
+    let p6 = neither (p7 .0) in
+    let p5 = neither (p6 .0) in
+    let p4 = neither (p5 .0) in
+    let p3 = neither (p4 .0) in
+    let p2 = neither (p3 .0) in
+    record {
+      limit-low = eqb-false (s .limit) 0 (p2 .0);
+      limit-high = ltb-false 8192 (s .limit) (p2 .1);
+      start-low = eqb-false (s .start) 0 (p3 .1);
+      start-high = ltb-false 16777216 (s .start) (p4 .1);
+      width-low = eqb-false (s .width) 0 (p5 .1);
+      width-high = ltb-false 4294967295 (s .width) (p6 .1);
+      buckets-low = eqb-false (s .buckets) 0 (p7 .1);
+      buckets-high = ltb-false 10000 (s .buckets) (p8 .1);
+      kind-high = ltb-false 1 (s .hashing .kind) (p9 .1);
+    }
+
+-- a record that is not torn
+pub record Whole (k : Record) : Type 0 where
+  pub settings-whole : outOfRange (k .settings) ≡ false
+  pub range : InRange (k .settings)
+  pub live-high : k .live ≤ k .settings .limit
+  pub threshold-high : k .threshold ≤ k .settings .start
+  pub sampled-high : k .numbers .sampled ≤ k .numbers .references
+  pub references-high : k .numbers .references ≤ 4294967295
+
+pub whole : (k : Record) → tornRecord k ≡ false → Whole k
+unfolding tornRecord
+whole k e =
+    let p5 = neither e in
+    let p4 = neither (p5 .0) in
+    let p3 = neither (p4 .0) in
+    let p2 = neither (p3 .0) in
+    record {
+      settings-whole = p2 .0;
+      range = in-range (k .settings) (p2 .0);
+      live-high = ltb-false (k .settings .limit) (k .live) (p2 .1);
+      threshold-high = ltb-false (k .settings .start) (k .threshold) (p3 .1);
+      sampled-high = ltb-false (k .numbers .references) (k .numbers .sampled) (p4 .1);
+      references-high = ltb-false 4294967295 (k .numbers .references) (p5 .1);
+    }
+
+-- and the other way round
+pub untorn : (k : Record) → outOfRange (k .settings) ≡ false → k .live ≤ k .settings .limit → k .threshold ≤ k .settings .start
+    → k .numbers .sampled ≤ k .numbers .references → k .numbers .references ≤ 4294967295 → tornRecord k ≡ false
+unfolding tornRecord
+untorn k e l t n r = rw (e, le-ltb _ _ l, le-ltb _ _ t, le-ltb _ _ n, le-ltb _ _ r)
+
+-- bucket tables that are long enough
+pub buckets-long : (s : Settings) (g : Histogram) → bucketsTooShort s g ≡ false → Long (needed (s .buckets)) g
+buckets-long s g e = let p = neither e in record {
+  counts-long = ltb-false (length (g .counts)) (needed (s .buckets)) (p .0);
+  thresholds-long = ltb-false (length (g .thresholds)) (needed (s .buckets)) (p .1);
+}
+
+-- lent tables that are long enough
+pub record AllLong (s : Settings) (t : Tables) : Type 0 where
+  pub locations-long : s .limit ≤ length (t .locations)
+  pub buckets : Long (needed (s .buckets)) (t .histogram)
+
+pub all-long : (s : Settings) (t : Tables) → tooShort s t ≡ false → AllLong s t
+all-long s t e = let p = neither e in record {
+  locations-long = ltb-false (length (t .locations)) (s .limit) (p .0);
+  buckets = buckets-long s (t .histogram) (p .1);
+}
+
+pub none-short : (s : Settings) (t : Tables) → AllLong s t → tooShort s t ≡ false
+none-short s t a = rw (le-ltb _ _ (a .locations-long), le-ltb _ _ (a .buckets .counts-long), le-ltb _ _ (a .buckets .thresholds-long))
+
+-- a bucket that is not torn
+pub record Sound (references t count threshold : ℕ) : Type 0 where
+  pub some : threshold ≡ 0 → ⊥
+  pub above : t ≤ threshold
+  pub under : threshold ≤ P
+  pub counted : count ≤ 256 * references
+
+pub sound : (references t count threshold : ℕ) → tornBucket references t count threshold ≡ false → Sound references t count threshold
+unfolding tornBucket
+sound references t count threshold e =
+    let p3 = neither e in
+    let p2 = neither (p3 .0) in
+    let p1 = neither (p2 .0) in
+    record {
+      some = eqb-false threshold 0 (p1 .0);
+      above = ltb-false threshold t (p1 .1);
+      under = ltb-false P threshold (p2 .1);
+      counted = ltb-false (256 * references) count (p3 .1);
+    }
+
+pub not-torn : (references t count threshold : ℕ) → Sound references t count threshold → tornBucket references t count threshold ≡ false
+unfolding tornBucket
+not-torn references t count threshold s = rw (ne-eqb threshold 0 (s .some), le-ltb _ _ (s .above), le-ltb _ _ (s .under), le-ltb _ _ (s .counted))
+
+-- its count times a threshold fits 64 bits
+pub product-fits : (references t count threshold : ℕ) → Sound references t count threshold → references < 2 ^ 32 → count * t < 2 ^ 64
+product-fits references t count threshold s h = omega (arith, mul-le-mul-left count (le-trans (s .above) (s .under)), s .counted)

@@ -1,0 +1,190 @@
+-- The calls, case by case: what each answers and leaves where a test holds, and what an accepted one leaves. Assumes nothing.
+use Prim.Native.Nat.{ℕ, suc, _+_, _≤_, _<_, min}
+use mathlib.Core.Path.{_≡_, refl, sym, ap, subst, _∙_}
+use mathlib.Core.Bool.{Bool, true, false, cond}
+use mathlib.Core.List.{List, [], _∷_}
+use native.Mathlib.Omega.{arith}
+use lib.ListN.{length, take, length-take}
+use lib.Dec.{ltb}
+use borrow.Author.Tests.{ltb-true, ltb-false, eqb-false}
+use Rattle.rules.specs.declared.Settings.{Settings}
+use Rattle.rules.specs.declared.Numbers.{Numbers}
+use Rattle.rules.specs.declared.Record.{Record}
+use Rattle.rules.specs.Lists.{has, over}
+use Rattle.rules.specs.Settings.{withDefaults, outOfRange, Histogram, Tables, needed, tooShort, mostReferences, full}
+use Rattle.rules.specs.Reference.{Sample, Profile, under, largest, lowered, keepBelow, settled, recordIn, Reply, skipped, first, again, Stepped, step}
+use Rattle.rules.specs.Answers.{Said, refused, gives}
+use Rattle.rules.specs.Refusals.{Held, liveOf, sampleOf, hashFor, profileOf, counted, laid, freshTables, freshRecord, fresh, tornRecord, tornFor, Outcome, refusing, Beginning, setupOf, restartOf, stepOf, referOf}
+use Rattle.rules.proofs.Tests.{cases}
+use Rattle.rules.proofs.Lists.{length-erase}
+use Rattle.rules.proofs.Tables.{over-front, over-length}
+use Rattle.rules.proofs.Buckets.{Long, long-record}
+use Rattle.rules.proofs.Bounds.{InRange, in-range, Whole, whole, untorn, AllLong, all-long, none-short}
+use Rattle.rules.proofs.Steps.{step-skipped, step-again, step-first, settled-histogram, largest-leaves}
+use Rattle.rules.proofs.Clean.{step-falls}
+
+-- nothing is both refused and accepted
+pub not-both : {A : Type 0} {said : Said A} {n : ℕ} {a : A} → said ≡ refused n → said ≡ gives a → ⊥
+not-both e f = let z : _≡_ {A = ℕ} 0 1 = cc in omega arith
+
+-- ---- setup and restart
+
+-- what an accepted start leaves: a fresh start under settings in range, with tables long enough
+pub record Begins (s : Settings) (t : Tables) (b : Beginning) : Type 0 where
+  pub range : outOfRange s ≡ false
+  pub long : tooShort s t ≡ false
+  pub is : b ≡ record { said = gives (freshRecord s); tables = freshTables s t }
+
+module _ (s : Settings) (t : Tables) where
+  pub setup-range : outOfRange (withDefaults s) ≡ true → setupOf s t ≡ record { said = refused 1; tables = t }
+  unfolding setupOf
+  setup-range e = rw e
+
+  module _ (e : outOfRange (withDefaults s) ≡ false) where
+    pub setup-short : tooShort (withDefaults s) t ≡ true → setupOf s t ≡ record { said = refused 2; tables = t }
+    unfolding setupOf
+    setup-short f = rw (e, f)
+
+    pub setup-accept : tooShort (withDefaults s) t ≡ false → setupOf s t ≡ record { said = gives (freshRecord (withDefaults s)); tables = freshTables (withDefaults s) t }
+    unfolding setupOf
+    setup-accept f = rw (e, f)
+
+  pub setup-begins : (k : Record) → setupOf s t .said ≡ gives k → Begins (withDefaults s) t (setupOf s t)
+  setup-begins k a = cases (outOfRange (withDefaults s))
+      (λ e. absurd (not-both (ap (λ b. b .said) (setup-range e)) a))
+      (λ e. cases (tooShort (withDefaults s) t)
+      (λ f. absurd (not-both (ap (λ b. b .said) (setup-short e f)) a))
+      (λ f. record { range = e; long = f; is = setup-accept e f }))
+
+module _ (k : Record) (t : Tables) where
+  pub restart-torn : tornRecord k ≡ true → restartOf k t ≡ record { said = refused 3; tables = t }
+  unfolding restartOf
+  restart-torn e = rw e
+
+  module _ (e : tornRecord k ≡ false) where
+    pub restart-short : tooShort (k .settings) t ≡ true → restartOf k t ≡ record { said = refused 2; tables = t }
+    unfolding restartOf
+    restart-short f = rw (e, f)
+
+    pub restart-accept : tooShort (k .settings) t ≡ false → restartOf k t ≡ record { said = gives (freshRecord (k .settings)); tables = freshTables (k .settings) t }
+    unfolding restartOf
+    restart-accept f = rw (e, f)
+
+  pub restart-begins : (j : Record) → restartOf k t .said ≡ gives j → Begins (k .settings) t (restartOf k t)
+  restart-begins j a = cases (tornRecord k)
+      (λ e. absurd (not-both (ap (λ b. b .said) (restart-torn e)) a))
+      (λ e. cases (tooShort (k .settings) t)
+      (λ f. absurd (not-both (ap (λ b. b .said) (restart-short e f)) a))
+      (λ f. record { range = whole k e .settings-whole; long = f; is = restart-accept e f }))
+
+-- ---- a reference
+
+-- nothing refuses it
+pub record Accepted (x : ℕ) (s : Held) : Type 0 where
+  pub record-whole : tornRecord (s .kept) ≡ false
+  pub tables-long : tooShort (s .kept .settings) (s .tables) ≡ false
+  pub room : full (s .kept .numbers) ≡ false
+  pub bucket-sound : tornFor x s ≡ false
+
+module _ (x : ℕ) (s : Held) where
+  pub refer-torn : tornRecord (s .kept) ≡ true → referOf x s ≡ refusing 3 s
+  unfolding referOf
+  refer-torn e = rw e
+
+  module _ (e : tornRecord (s .kept) ≡ false) where
+    pub refer-short : tooShort (s .kept .settings) (s .tables) ≡ true → referOf x s ≡ refusing 2 s
+    unfolding referOf
+    refer-short f = rw (e, f)
+
+    module _ (f : tooShort (s .kept .settings) (s .tables) ≡ false) where
+      pub refer-full : full (s .kept .numbers) ≡ true → referOf x s ≡ refusing 4 s
+      unfolding referOf
+      refer-full g = rw (e, f, g)
+
+      pub refer-bucket : full (s .kept .numbers) ≡ false → tornFor x s ≡ true → referOf x s ≡ refusing 3 s
+      unfolding referOf
+      refer-bucket g h = rw (e, f, g, h)
+
+  pub refer-accept : Accepted x s → referOf x s ≡ record { said = gives (stepOf x s .reply); left = laid (stepOf x s) s }
+  unfolding referOf
+  refer-accept a = rw (a .record-whole, a .tables-long, a .room, a .bucket-sound)
+
+  -- either nothing refuses it, or it is refused and leaves all as it was
+  pub refer-either : {C : Type 0} → (Accepted x s → C) → ((n : ℕ) → referOf x s ≡ refusing n s → C) → C
+  refer-either yes-case no-case = cases (tornRecord (s .kept))
+      (λ e. no-case 3 (refer-torn e))
+      (λ e. cases (tooShort (s .kept .settings) (s .tables))
+      (λ f. no-case 2 (refer-short e f))
+      (λ f. cases (full (s .kept .numbers))
+      (λ g. no-case 4 (refer-full e f g))
+      (λ g. cases (tornFor x s)
+      (λ h. no-case 3 (refer-bucket e f g h))
+      (λ h. yes-case (record { record-whole = e; tables-long = f; room = g; bucket-sound = h })))))
+
+  pub refer-accepted : (r : Reply) → referOf x s .said ≡ gives r → Accepted x s
+  refer-accepted r a = refer-either (λ w. w) (λ n e. absurd (not-both (ap (λ o. o .said) e) a))
+
+-- ---- what an accepted reference leaves
+
+-- where the tables say the list and the buckets stand, the step is read back
+pub sample-laid : (r : Stepped) (s : Held) → sampleOf (laid r s) ≡ r .left
+sample-laid r s = λ i. record { threshold = r .left .threshold; live = over-front (r .left .live) (s .tables .locations) i; histogram = r .left .histogram }
+
+settled-length : (hash : ℕ → ℕ) (limit t : ℕ) (l : List ℕ) (g : Histogram) → length l ≤ limit + 1 → length (settled hash limit t l g .live) ≤ limit
+unfolding settled
+settled-length hash limit t l g h = cases (ltb limit (length l))
+    (λ o. rw o (omega (arith, largest-leaves hash (lowered hash t l) l (omega (arith, ltb-true limit (length l) o)) (omega arith))))
+    (λ o. rw o (ltb-false limit (length l) o))
+
+-- never more than the limit are live, whatever the list held
+pub step-live : (hash : ℕ → ℕ) (limit : ℕ) (f : Profile) (x : ℕ) (s : Sample) → length (s .live) ≤ limit → length (step hash limit f x s .left .live) ≤ limit
+step-live hash limit f x s h = cases (under hash (s .threshold) x)
+    (λ e. cases (has x (s .live))
+    (λ m. rw (step-again hash limit f x s e m) (omega (arith, length-erase x (s .live) m)))
+    (λ m. rw (step-first hash limit f x s e m) (settled-length hash limit (s .threshold) (x ∷ s .live) _ (omega arith))))
+    (λ e. rw (step-skipped hash limit f x s e) h)
+
+step-long : (hash : ℕ → ℕ) (limit : ℕ) (f : Profile) (x : ℕ) (s : Sample) (n : ℕ) → Long n (s .histogram) → Long n (step hash limit f x s .left .histogram)
+step-long hash limit f x s n l = cases (under hash (s .threshold) x)
+    (λ e. cases (has x (s .live))
+    (λ m. rw (step-again hash limit f x s e m) (long-record (s .threshold) _ (s .histogram) n l))
+    (λ m. rw (step-first hash limit f x s e m, settled-histogram hash limit (s .threshold) (x ∷ s .live)) (long-record (s .threshold) _ (s .histogram) n l)))
+    (λ e. rw (step-skipped hash limit f x s e) l)
+
+counted-references : (r : Reply) (n : Numbers) → counted r n .references ≡ n .references + 1
+counted-references skipped n = refl
+counted-references first n = refl
+counted-references (again d) n = refl
+
+counted-sampled : (r : Reply) (n : Numbers) → n .sampled ≤ n .references → counted r n .sampled ≤ n .references + 1
+counted-sampled skipped n h = omega arith
+counted-sampled first n h = omega arith
+counted-sampled (again d) n h = omega arith
+
+module _ (x : ℕ) (s : Held) (a : Accepted x s) where
+  abbrev k : Record
+  k = s .kept
+
+  record-bounds : Whole k
+  record-bounds = whole k (a .record-whole)
+
+  tables-bounds : AllLong (k .settings) (s .tables)
+  tables-bounds = all-long (k .settings) (s .tables) (a .tables-long)
+
+  pub live-left : length (stepOf x s .left .live) ≤ k .settings .limit
+  live-left = step-live (hashFor (k .settings)) (k .settings .limit) (profileOf (k .settings)) x (sampleOf s)
+      (omega (arith, length-take (k .live) (s .tables .locations), record-bounds .live-high))
+
+  -- the record left is not torn
+  pub left-whole : tornRecord (laid (stepOf x s) s .kept) ≡ false
+  left-whole = untorn (laid (stepOf x s) s .kept) (record-bounds .settings-whole) live-left
+      (omega (arith, step-falls (hashFor (k .settings)) (k .settings .limit) (profileOf (k .settings)) x (sampleOf s), record-bounds .threshold-high))
+      (omega (arith, counted-sampled (stepOf x s .reply) (k .numbers) (record-bounds .sampled-high), counted-references (stepOf x s .reply) (k .numbers)))
+      (omega (arith, counted-references (stepOf x s .reply) (k .numbers), record-bounds .references-high, eqb-false (k .numbers .references) mostReferences (a .room)))
+
+  -- nor are the tables left too short
+  pub left-long : tooShort (k .settings) (laid (stepOf x s) s .tables) ≡ false
+  left-long = none-short (k .settings) (laid (stepOf x s) s .tables) (record {
+    locations-long = rw (over-length (stepOf x s .left .live) (s .tables .locations) (omega (arith, live-left, tables-bounds .locations-long))) (tables-bounds .locations-long);
+    buckets = step-long (hashFor (k .settings)) (k .settings .limit) (profileOf (k .settings)) x (sampleOf s) (needed (k .settings .buckets)) (tables-bounds .buckets);
+  })
