@@ -101,6 +101,9 @@ all-long s t e = let p = neither e in record {
 pub none-short : (s : Settings) (t : Tables) → AllLong s t → tooShort s t ≡ false
 none-short s t a = rw (le-ltb _ _ (a .locations-long), le-ltb _ _ (a .buckets .counts-long), le-ltb _ _ (a .buckets .thresholds-long))
 
+pub buckets-none-short : (s : Settings) (t : Tables) → tooShort s t ≡ false → bucketsTooShort s (t .histogram) ≡ false
+buckets-none-short s t e = let l = all-long s t e .buckets in rw (le-ltb _ _ (l .counts-long), le-ltb _ _ (l .thresholds-long))
+
 -- a bucket that is not torn
 pub record Sound (references t count threshold : ℕ) : Type 0 where
   pub some : threshold ≡ 0 → ⊥

@@ -49,12 +49,16 @@ module _ (s : Settings) (t : Tables) where
     unfolding setupOf
     setup-accept f = rw (e, f)
 
-  pub setup-begins : (k : Record) → setupOf s t .said ≡ gives k → Begins (withDefaults s) t (setupOf s t)
-  setup-begins k a = cases (outOfRange (withDefaults s))
-      (λ e. absurd (not-both (ap (λ b. b .said) (setup-range e)) a))
+  -- either nothing refuses it, or it is refused and leaves the tables as they were
+  pub setup-either : {C : Type 0} → (Begins (withDefaults s) t (setupOf s t) → C) → ((n : ℕ) → setupOf s t ≡ record { said = refused n; tables = t } → C) → C
+  setup-either accept refuse = cases (outOfRange (withDefaults s))
+      (λ e. refuse 1 (setup-range e))
       (λ e. cases (tooShort (withDefaults s) t)
-      (λ f. absurd (not-both (ap (λ b. b .said) (setup-short e f)) a))
-      (λ f. record { range = e; long = f; is = setup-accept e f }))
+      (λ f. refuse 2 (setup-short e f))
+      (λ f. accept (record { range = e; long = f; is = setup-accept e f })))
+
+  pub setup-begins : (k : Record) → setupOf s t .said ≡ gives k → Begins (withDefaults s) t (setupOf s t)
+  setup-begins k a = setup-either (λ w. w) (λ n e. absurd (not-both (ap (λ b. b .said) e) a))
 
 module _ (k : Record) (t : Tables) where
   pub restart-torn : tornRecord k ≡ true → restartOf k t ≡ record { said = refused 3; tables = t }
@@ -70,12 +74,15 @@ module _ (k : Record) (t : Tables) where
     unfolding restartOf
     restart-accept f = rw (e, f)
 
-  pub restart-begins : (j : Record) → restartOf k t .said ≡ gives j → Begins (k .settings) t (restartOf k t)
-  restart-begins j a = cases (tornRecord k)
-      (λ e. absurd (not-both (ap (λ b. b .said) (restart-torn e)) a))
+  pub restart-either : {C : Type 0} → (Begins (k .settings) t (restartOf k t) → C) → ((n : ℕ) → restartOf k t ≡ record { said = refused n; tables = t } → C) → C
+  restart-either accept refuse = cases (tornRecord k)
+      (λ e. refuse 3 (restart-torn e))
       (λ e. cases (tooShort (k .settings) t)
-      (λ f. absurd (not-both (ap (λ b. b .said) (restart-short e f)) a))
-      (λ f. record { range = whole k e .settings-whole; long = f; is = restart-accept e f }))
+      (λ f. refuse 2 (restart-short e f))
+      (λ f. accept (record { range = whole k e .settings-whole; long = f; is = restart-accept e f })))
+
+  pub restart-begins : (j : Record) → restartOf k t .said ≡ gives j → Begins (k .settings) t (restartOf k t)
+  restart-begins j a = restart-either (λ w. w) (λ n e. absurd (not-both (ap (λ b. b .said) e) a))
 
 -- ---- a reference
 
@@ -111,15 +118,15 @@ module _ (x : ℕ) (s : Held) where
 
   -- either nothing refuses it, or it is refused and leaves all as it was
   pub refer-either : {C : Type 0} → (Accepted x s → C) → ((n : ℕ) → referOf x s ≡ refusing n s → C) → C
-  refer-either yes-case no-case = cases (tornRecord (s .kept))
-      (λ e. no-case 3 (refer-torn e))
+  refer-either accept refuse = cases (tornRecord (s .kept))
+      (λ e. refuse 3 (refer-torn e))
       (λ e. cases (tooShort (s .kept .settings) (s .tables))
-      (λ f. no-case 2 (refer-short e f))
+      (λ f. refuse 2 (refer-short e f))
       (λ f. cases (full (s .kept .numbers))
-      (λ g. no-case 4 (refer-full e f g))
+      (λ g. refuse 4 (refer-full e f g))
       (λ g. cases (tornFor x s)
-      (λ h. no-case 3 (refer-bucket e f g h))
-      (λ h. yes-case (record { record-whole = e; tables-long = f; room = g; bucket-sound = h })))))
+      (λ h. refuse 3 (refer-bucket e f g h))
+      (λ h. accept (record { record-whole = e; tables-long = f; room = g; bucket-sound = h })))))
 
   pub refer-accepted : (r : Reply) → referOf x s .said ≡ gives r → Accepted x s
   refer-accepted r a = refer-either (λ w. w) (λ n e. absurd (not-both (ap (λ o. o .said) e) a))

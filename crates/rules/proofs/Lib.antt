@@ -1,5 +1,6 @@
 pub mod Tests
 pub mod Answers
+pub mod Hash
 pub mod Lists
 pub mod Tables
 pub mod Places

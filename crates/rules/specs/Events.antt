@@ -1,5 +1,5 @@
 -- Document 01, "Trace events". Assumes nothing.
-use Prim.Native.Nat.{ℕ, zero, suc, _+_, _*_, _/_, _%_}
+use Prim.Native.Nat.{ℕ, zero, suc, _+_, _*_, _/_, _%_, _^_, _<_}
 use mathlib.Core.Bool.{cond}
 use mathlib.Core.List.{List, [], _∷_, _++_}
 use lib.Dec.{eqb, leb}
@@ -40,6 +40,17 @@ bodyOf s = record { limit = numberAt 4 1 s; start = numberAt 4 5 s; width = numb
 -- the settings that a kind 4 event asks for, before defaults
 abbrev pub settingsOf : Body → Settings
 settingsOf b = record { limit = b .limit; start = b .start; width = b .width; buckets = b .buckets; hashing = record { kind = b .kind } }
+
+-- an event's numbers fit their types, as those of any event that a program holds do
+abbrev pub Fits : Event → Type 0
+Fits (Location x) = x < 2 ^ 64
+Fits (Span offset length) = (offset < 2 ^ 64) × (length < 2 ^ 32)
+Fits Restart = Unit {0}
+Fits (Setup b) = (b .limit < 2 ^ 32) × (b .start < 2 ^ 32) × (b .width < 2 ^ 32) × (b .buckets < 2 ^ 32) × (b .kind < 2 ^ 8)
+
+-- a list of bytes, as any that a program holds is
+abbrev pub Bytes : List ℕ → Type 0
+Bytes s = (i : ℕ) → getD s i 0 < 256
 
 -- the references that an event stands for: kind 1 one, kind 2 one to offset / 4,096, or none if its length is 0
 abbrev pub referencesOf : Event → List ℕ

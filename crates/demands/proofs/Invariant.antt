@@ -1,0 +1,123 @@
+-- What every run leaves. Assumes nothing.
+use Prim.Native.Nat.{ℕ, suc, _+_, _*_, _≤_, _<_}
+use mathlib.Core.Path.{_≡_, refl, sym, ap, subst, subst₂, _∙_}
+use mathlib.Core.Bool.{true, false, cond}
+use mathlib.Core.List.{List, [], _∷_}
+use mathlib.Core.Option.{Option}
+use native.Mathlib.Omega.{arith}
+use lib.ListN.{length, take, length-take}
+use Rattle.rules.specs.declared.Settings.{Settings}
+use Rattle.rules.specs.declared.Record.{Record}
+use Rattle.rules.specs.Settings.{outOfRange, P, Tables, needed, tooShort, full}
+use Rattle.rules.specs.Reference.{Sample, under, firstPlace, countAt, thresholdAt, bucketFor, Reply, skipped, first, again, step}
+use Rattle.rules.specs.Answers.{gives}
+use Rattle.rules.specs.Refusals.{Held, liveOf, sampleOf, hashFor, profileOf, counted, laid, freshRecord, freshTables, fresh, tornRecord, tornAt, tornFor, Beginning, stepOf, referOf, setupOf, restartOf}
+use Rattle.rules.proofs.Tests.{cases}
+use Rattle.rules.proofs.Tables.{over-front}
+use Rattle.rules.proofs.Bounds.{Whole, whole, untorn, InRange, in-range, AllLong, all-long, none-short, Sound, not-torn}
+use Rattle.rules.proofs.Steps.{Tracked, tracked-fresh, tracked-step}
+use Rattle.rules.proofs.FullRate.{Cut, widths-cut}
+use Rattle.rules.proofs.Fresh.{fresh-long}
+use Rattle.rules.proofs.Clean.{Clean, clean-fresh, clean-step, bucket-needed}
+use Rattle.rules.proofs.Calls.{Begins, setup-begins, restart-begins, Accepted, refer-accept, refer-accepted, sample-laid, left-whole, left-long}
+use Rattle.demands.specs.Runs.{Run, setup, restart, refer, answers, sampledIn}
+
+pub record Invariant (past : List ℕ) (s : Held) : Type 0 where
+  pub record-whole : tornRecord (s .kept) ≡ false
+  pub tables-long : tooShort (s .kept .settings) (s .tables) ≡ false
+  pub tracked : Tracked (hashFor (s .kept .settings)) (s .kept .settings .limit) (s .kept .settings .start) past (sampleOf s)
+  pub clean : Clean (needed (s .kept .settings .buckets)) (s .kept .settings .start) (s .kept .numbers .references) (s .kept .threshold) (s .tables .histogram)
+  pub live-is : s .kept .live ≡ length (liveOf s)
+  pub references-is : s .kept .numbers .references ≡ length past
+
+-- the profile's buckets are cut at its point sizes
+pub cut : (s : Settings) → InRange s → Cut (profileOf s)
+cut s r = widths-cut (s .width) (s .buckets) (omega (arith, r .width-low))
+
+pub invariant-fresh : (s : Settings) (t : Tables) → outOfRange s ≡ false → tooShort s t ≡ false → Invariant [] (fresh s t)
+invariant-fresh s t e l =
+    let r = in-range s e in
+    let a = all-long s t l in
+    record {
+      record-whole = untorn (freshRecord s) e (omega arith) (omega arith) (omega arith) (omega arith);
+      tables-long = none-short s (freshTables s t) (record { locations-long = a .locations-long; buckets = fresh-long s t (a .buckets) });
+      tracked = tracked-fresh (hashFor s) (s .limit) (s .start) (freshTables s t .histogram);
+      clean = clean-fresh s t (a .buckets) (omega (arith, r .start-low));
+      live-is = refl;
+      references-is = refl;
+    }
+
+pub gives-same : {A : Type 0} {a b : A} → gives a ≡ gives b → a ≡ b
+gives-same e = cc
+
+begun-held : {b : Beginning} {k : Record} {s : Held} {u : Tables} → b ≡ record { said = gives k; tables = u } → b ≡ record { said = gives (s .kept); tables = s .tables } → record { kept = k; tables = u } ≡ s
+begun-held {k = k} {s = s} e f =
+    λ i. record { kept = gives-same (ap (λ b. b .said) (sym e ∙ f)) i; tables = ap (λ b. b .tables) (sym e ∙ f) i }
+
+-- what a run is begun with
+pub record Fresh (h : Held) : Type 0 where
+  pub given : Settings
+  pub over : Tables
+  pub range : outOfRange given ≡ false
+  pub long : tooShort given over ≡ false
+  pub is : fresh given over ≡ h
+
+pub fresh-begun : (s : Settings) (t : Tables) (b : Beginning) (h : Held) → Begins s t b → b ≡ record { said = gives (h .kept); tables = h .tables } → Fresh h
+fresh-begun s t b h g e = record { given = s; over = t; range = g .range; long = g .long; is = begun-held (g .is) e }
+
+module _ (past : List ℕ) (s : Held) (v : Invariant past s) (x : ℕ) where
+  abbrev set : Settings
+  set = s .kept .settings
+
+  pub bounds : Whole (s .kept)
+  bounds = whole (s .kept) (v .record-whole)
+
+  -- the bucket that a reference would record in is not torn
+  pub bucket-clean : tornFor x s ≡ false
+  bucket-clean = cases (under (hashFor set) (s .kept .threshold) x)
+      (λ e. rw e (at _ (bucket-needed (profileOf set) (cut set (bounds .range) .far) (s .kept .threshold) (firstPlace x (liveOf s)))))
+      (λ e. rw e)
+    where
+      at : (j : ℕ) → j < needed (set .buckets) → tornAt (s .kept .numbers .references) (s .kept .threshold) j (s .tables .histogram) ≡ false
+      at j h = not-torn _ _ _ _ (record {
+        some = λ e. omega (arith, v .clean .at-least-one j h);
+        above = v .clean .not-below j h;
+        under = omega (arith, v .clean .not-above j h, bounds .range .start-high);
+        counted = v .clean .count-high j h;
+      })
+
+  -- so a reference is refused only when Full
+  pub accepted : full (s .kept .numbers) ≡ false → Accepted x s
+  accepted r = record { record-whole = v .record-whole; tables-long = v .tables-long; room = r; bucket-sound = bucket-clean }
+
+  counted-one : (r : Reply) → counted r (s .kept .numbers) .references ≡ s .kept .numbers .references + 1
+  counted-one skipped = refl
+  counted-one first = refl
+  counted-one (again d) = refl
+
+  pub invariant-laid : Accepted x s → Invariant (x ∷ past) (laid (stepOf x s) s)
+  invariant-laid a = record {
+    record-whole = left-whole x s a;
+    tables-long = left-long x s a;
+    tracked = rw (sample-laid (stepOf x s) s) (tracked-step (hashFor set) (set .limit) (set .start) x past (sampleOf s) (v .tracked) (profileOf set));
+    clean = rw (counted-one (stepOf x s .reply)) (clean-step (hashFor set) (set .limit) (profileOf set) (cut set (bounds .range) .far) x (sampleOf s) (set .start) (s .kept .numbers .references) (bounds .threshold-high) (v .clean));
+    live-is = ap length (sym (over-front (stepOf x s .left .live) (s .tables .locations)));
+    references-is = counted-one (stepOf x s .reply) ∙ (let q : s .kept .numbers .references + 1 ≡ suc (length past) = omega (arith, v .references-is) in q);
+  }
+
+-- by cases on a run, of what holds of a fresh start and is kept by each accepted reference
+pub by-run : (Q : (past : List ℕ) → Held → List Reply → Type 0)
+    → ((h : Held) → Fresh h → Q [] h [])
+    → ((past : List ℕ) (s : Held) (x : ℕ) (rs : List Reply) → Run past s → Accepted x s → Q past s rs → Q (x ∷ past) (laid (stepOf x s) s) (stepOf x s .reply ∷ rs))
+    → {past : List ℕ} {s : Held} (run : Run past s) → Q past s (answers run)
+by-run Q start next (setup given t {s = s} e) = start s (fresh-begun _ t _ s (setup-begins given t (s .kept) (ap (λ b. b .said) e)) e)
+by-run Q start next (restart k t {s = s} e) = start s (fresh-begun _ t _ s (restart-begins k t (s .kept) (ap (λ b. b .said) e)) e)
+by-run Q start next (refer {past = past} {s = s} {after = after} {x = x} {r = r} run e) =
+    let a = refer-accepted x s r (ap (λ o. o .said) e) in
+    let q = sym (refer-accept x s a) ∙ e in
+    subst₂ (λ h z. Q (x ∷ past) h (z ∷ answers run)) (ap (λ o. o .left) q) (gives-same (ap (λ o. o .said) q)) (next past s x (answers run) run a (by-run Q start next run))
+
+pub invariant : {past : List ℕ} {s : Held} → Run past s → Invariant past s
+invariant run = by-run (λ past s rs. Invariant past s)
+    (λ h f. subst (Invariant []) (f .is) (invariant-fresh (f .given) (f .over) (f .range) (f .long)))
+    (λ past s x rs run a v. invariant-laid past s v x a) run

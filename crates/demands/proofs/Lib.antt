@@ -1,0 +1,7 @@
+pub mod Invariant
+pub mod Tracking
+pub mod Alone
+pub mod Points
+pub mod Recency
+pub mod Bench
+pub mod Witnesses

@@ -1,0 +1,99 @@
+-- Demand 3 over whole runs, but for "as if nothing else had been tracked". Assumes nothing.
+use Prim.Native.Nat.{ℕ, suc, _+_, _≤_}
+use mathlib.Core.Path.{_≡_, refl, sym, ap, ap₂, subst, _∙_}
+use mathlib.Core.Bool.{true, false, cond}
+use mathlib.Core.List.{List, [], _∷_}
+use native.Mathlib.Omega.{arith}
+use lib.Dec.{eqb}
+use lib.ListN.{length}
+use borrow.Author.Tests.{eqb-false, eq-eqb, ne-eqb}
+use Rattle.rules.specs.declared.Settings.{Settings}
+use Rattle.rules.specs.Settings.{mostReferences, full, outOfRange, withDefaults, tooShort}
+use Rattle.rules.specs.Reference.{Reply, skipped, first, again, under}
+use Rattle.rules.specs.Lists.{has}
+use Rattle.rules.specs.Answers.{Said, refused, gives}
+use Rattle.rules.specs.Refusals.{Held, liveOf, sampleOf, hashFor, profileOf, counted, laid, tornRecord, stepOf, referOf, setupOf, restartOf}
+use Rattle.rules.proofs.Tests.{cases}
+use Rattle.rules.proofs.Steps.{replied-skipped, replied-first, replied-again}
+use Rattle.rules.proofs.Calls.{not-both, Accepted, refer-accept, refer-accepted, refer-either, refer-full, setup-either, restart-either}
+use Rattle.demands.specs.Runs.{Run, setup, restart, refer, answers, sampledIn}
+use Rattle.demands.specs.Statements.{inForce, Threshold, LiveList, historyReply, Answers, Numbered, Numbers, OnlyFull, Bounded, Bounds, Unmoved, RefusedAnywhere}
+use Rattle.demands.proofs.Invariant.{gives-same, by-run, Invariant, invariant, accepted}
+
+pub threshold : Threshold
+threshold past s run = invariant run .tracked .threshold-is
+
+pub live-list : LiveList
+live-list past s run = invariant run .tracked .live-is
+
+-- the step's answer is the history's
+step-reply : (past : List ℕ) (s : Held) (x : ℕ) → Run past s → stepOf x s .reply ≡ historyReply s past x
+step-reply past s x run =
+    let h = hashFor (s .kept .settings) in
+    let limit = s .kept .settings .limit in
+    let start = s .kept .settings .start in
+    let f = profileOf (s .kept .settings) in
+    let k = invariant run .tracked in
+    cases (inForce s x)
+    (λ e. cases (has x past)
+    (λ m. rw (e, m) (replied-again h limit start x past (sampleOf s) k f e m))
+    (λ m. rw (e, m) (replied-first h limit start x past (sampleOf s) k f e m)))
+    (λ e. rw e (replied-skipped h limit start x past (sampleOf s) k f e))
+
+-- an accepted reference answers the step's reply
+said-step : (s after : Held) (x : ℕ) (r : Reply) → referOf x s ≡ record { said = gives r; left = after } → r ≡ stepOf x s .reply
+said-step s after x r e = gives-same (ap (λ o. o .said) (sym e ∙ refer-accept x s (refer-accepted x s r (ap (λ o. o .said) e))))
+
+pub whole-answers : Answers
+whole-answers past s after x r run e = said-step s after x r e ∙ step-reply past s x run
+
+-- sampled rises where the answer is not Skipped
+sampled-more : (r : Reply) (n : Rattle.rules.specs.declared.Numbers.Numbers) (rs : List Reply) → n .sampled ≡ sampledIn rs → counted r n .sampled ≡ sampledIn (r ∷ rs)
+sampled-more skipped n rs e = e
+sampled-more first n rs e = omega arith
+sampled-more (again d) n rs e = omega arith
+
+sampled-is : {past : List ℕ} {s : Held} (run : Run past s) → s .kept .numbers .sampled ≡ sampledIn (answers run)
+sampled-is run = by-run (λ past s rs. s .kept .numbers .sampled ≡ sampledIn rs)
+    (λ h f. ap (λ z. z .kept .numbers .sampled) (sym (f .is)))
+    (λ past s x rs run a e. sampled-more (stepOf x s .reply) (s .kept .numbers) rs e) run
+
+pub numbers : Numbers
+numbers past s run = record {
+  references-is = invariant run .references-is;
+  sampled-is = sampled-is run;
+  live-is = invariant run .live-is;
+}
+
+pub only-full : OnlyFull
+only-full past s x run =
+    let v = invariant run in
+    cases (eqb (length past) mostReferences)
+    (λ e. rw e (refer-full x s (v .record-whole) (v .tables-long) (ap (λ n. eqb n mostReferences) (v .references-is) ∙ e)))
+    (λ e. rw e (let q = refer-accept x s (accepted past s v x (ap (λ n. eqb n mostReferences) (v .references-is) ∙ e)) in
+    λ i. record { said = (ap (λ o. o .said) q ∙ ap gives (step-reply past s x run)) i; left = referOf x s .left }))
+
+pub bounds-hold : Bounds
+bounds-hold past s run j h = let c = invariant run .clean in record {
+  at-least-one = c .at-least-one j h;
+  not-below = c .not-below j h;
+  not-above = c .not-above j h;
+  count-high = c .count-high j h;
+  raw-high = c .raw-high;
+}
+
+pub refused-anywhere : RefusedAnywhere
+refused-anywhere past s run = record {
+  by-refer = λ x n e. refer-either x s
+      (λ a. absurd (not-both e (ap (λ o. o .said) (refer-accept x s a))))
+      (λ m q. subst (Run past) (sym (ap (λ o. o .left) q)) run);
+  by-restart = λ n e. restart-either (s .kept) (s .tables)
+      (λ b. absurd (not-both e (ap (λ b. b .said) (b .is))))
+      (λ m q. unmoved (ap (λ b. b .tables) q));
+  by-setup = λ given n e. setup-either given (s .tables)
+      (λ b. absurd (not-both e (ap (λ b. b .said) (b .is))))
+      (λ m q. unmoved (ap (λ b. b .tables) q));
+}
+  where
+    unmoved : {t : Rattle.rules.specs.Settings.Tables} → t ≡ s .tables → Run past (record { kept = s .kept; tables = t })
+    unmoved e = subst (λ z. Run past (record { kept = s .kept; tables = z })) (sym e) run
