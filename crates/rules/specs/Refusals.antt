@@ -64,15 +64,16 @@ laid r s = record {
   tables = record { locations = over (r .left .live) (s .tables .locations); histogram = r .left .histogram };
 }
 
--- a fresh start: the location table is not written, entries past the needed ones never changed
-abbrev pub freshTables : Settings → Tables → Tables
-freshTables s t = record {
-  locations = t .locations;
-  histogram = record {
-    counts = over (blank (s .buckets) (s .start) .counts) (t .histogram .counts);
-    thresholds = over (blank (s .buckets) (s .start) .thresholds) (t .histogram .thresholds);
-  };
+-- a fresh start: all needed counts 0, all needed bucket thresholds T0; entries past the needed ones never changed
+abbrev pub freshBuckets : Settings → Histogram → Histogram
+freshBuckets s g = record {
+  counts = over (blank (s .buckets) (s .start) .counts) (g .counts);
+  thresholds = over (blank (s .buckets) (s .start) .thresholds) (g .thresholds);
 }
+
+-- the location table is not written
+abbrev pub freshTables : Settings → Tables → Tables
+freshTables s t = record { locations = t .locations; histogram = freshBuckets s (t .histogram) }
 
 abbrev pub freshRecord : Settings → Record
 freshRecord s = record { settings = s; threshold = s .start; live = 0; numbers = record { references = 0; sampled = 0 } }
