@@ -1,0 +1,124 @@
+-- The laws of the histogram in its tables. Assumes nothing.
+use Prim.Native.Nat.{ℕ, zero, suc, _+_, _*_, _^_, _≤_, _<_, min}
+use mathlib.Core.Path.{_≡_, refl, subst}
+use mathlib.Core.Logic.{⊎-elim}
+use mathlib.Core.Bool.{true, false, cond}
+use native.Mathlib.Nat.{mul-le-mul-left, mul-comm, div-le-of-le-mul, le-trans, le-of-eq, eq-or-lt-of-le, le-of-suc-le-suc}
+use native.Mathlib.Numerals.{add-one}
+use native.Mathlib.Omega.{arith}
+use lib.ListN.{length, length-set}
+use borrow.Author.Tests.{eqb-false, ltb-true, ltb-false, le-ltb, lt-ltb, lt-leb}
+use Rattle.rules.specs.Settings.{P, Histogram, needed}
+use Rattle.rules.specs.Reference.{rescaled, countAt, thresholdAt, recordIn}
+use Rattle.rules.specs.Curve.{sumTo, rawTo, hitsAt, totalOf}
+use Rattle.rules.specs.Answers.{refused, gives}
+use Rattle.rules.specs.Refusals.{tornBucket, tornAt, anyTorn, tornReport}
+use Rattle.rules.proofs.Tests.{cases, neither, or-left, or-right}
+use Rattle.buckets.specs.Buckets.{unrecordable, recordedOf, tornTo, reportOf, SoFar}
+
+-- ---- a bucket that is not torn
+
+pub record Sound (references t count own : ℕ) : Type 0 where
+  pub some : own ≡ 0 → ⊥
+  pub above : t ≤ own
+  pub under : own ≤ P
+  pub counted : count ≤ 256 * references
+
+pub sound : (references t count own : ℕ) → tornBucket references t count own ≡ false → Sound references t count own
+unfolding tornBucket
+sound references t count own e =
+    let e3 = neither e in
+    let e2 = neither (e3 .0) in
+    let e1 = neither (e2 .0) in
+    record {
+      some = eqb-false own 0 (e1 .0);
+      above = ltb-false own t (e1 .1);
+      under = ltb-false P own (e2 .1);
+      counted = ltb-false (256 * references) count (e3 .1);
+    }
+
+module _ {references t count own : ℕ} (s : Sound references t count own) where
+  pub product-fits : references < 2 ^ 32 → count * t < 2 ^ 64
+  product-fits h = omega (arith, mul-le-mul-left count (le-trans (s .above) (s .under)))
+
+  pub rescaled-le : rescaled t count own ≤ count
+  rescaled-le = div-le-of-le-mul own (le-trans (mul-le-mul-left count (s .above)) (le-of-eq (mul-comm count own)))
+
+-- ---- torn buckets, and raw counts that are too many
+
+module _ (references t : ℕ) (g : Histogram) where
+  any-torn : (n : ℕ) → anyTorn references t n g ≡ true → tornTo references t n g ≡ true
+  unfolding tornTo
+  any-torn n e = or-left (anyTorn references t n g) _ e
+
+  too-many : (n : ℕ) → 256 * references < rawTo n g → tornTo references t n g ≡ true
+  unfolding tornTo
+  too-many n h = or-right (anyTorn references t n g) _ (lt-ltb _ _ h)
+
+  torn-step : (n : ℕ) → tornTo references t n g ≡ true → tornTo references t (suc n) g ≡ true
+  unfolding tornTo anyTorn rawTo
+  torn-step n e = cases (anyTorn references t n g)
+      (λ a. any-torn (suc n) (or-left (anyTorn references t n g) _ a))
+      (λ a. let h : 256 * references < rawTo n g = ltb-true _ _ (rw a at e) in too-many (suc n) (omega arith))
+
+  -- what is torn stays torn with more buckets
+  pub torn-more : (i n : ℕ) → i ≤ n → tornTo references t i g ≡ true → tornTo references t n g ≡ true
+  torn-more i zero h e = subst (λ j. tornTo references t j g ≡ true) (let q : i ≡ 0 = omega arith in q) e
+  torn-more i (suc n) h e =
+      ⊎-elim (λ (q : i ≡ suc n). subst (λ j. tornTo references t j g ≡ true) q e)
+      (λ (l : i < suc n). torn-step n (torn-more i n (le-of-suc-le-suc l) e)) (eq-or-lt-of-le h)
+
+  -- bucket i is torn, or the raw counts are too many with it
+  pub torn-here : (i n : ℕ) → i < n → tornAt references t i g ≡ true → tornTo references t n g ≡ true
+  unfolding anyTorn
+  torn-here i n h e = torn-more (suc i) n h (any-torn (suc i) (or-right (anyTorn references t i g) _ e))
+
+  pub torn-over : (raw i n : ℕ) → i < n → raw ≡ rawTo i g → 256 * references < raw + countAt i g → tornTo references t n g ≡ true
+  unfolding rawTo
+  torn-over raw i n h q e = torn-more (suc i) n h (too-many (suc i) (omega arith))
+
+  -- ---- the sums
+
+  pub so-far-none : SoFar references t 0 g 0 0
+  unfolding anyTorn rawTo sumTo
+  so-far-none = record { whole = refl; raw-is = refl; sum-is = refl; raw-high = omega arith; sum-high = omega arith }
+
+  pub so-far-more : (raw sum i : ℕ) → SoFar references t i g raw sum → tornAt references t i g ≡ false → raw + countAt i g ≤ 256 * references → SoFar references t (i + 1) g (raw + countAt i g) (sum + rescaled t (countAt i g) (thresholdAt i g))
+  unfolding anyTorn rawTo sumTo
+  so-far-more raw sum i s e h = record {
+    whole = rw (add-one, s .whole, e);
+    raw-is = rw (add-one, s .raw-is);
+    sum-is = rw (add-one, s .sum-is);
+    raw-high = h;
+    sum-high = omega (arith, s .sum-high, rescaled-le (sound references t (countAt i g) (thresholdAt i g) e));
+  }
+
+  -- ---- the report
+
+  module _ (n point : ℕ) (h : n ≤ length (g .counts)) (k : n ≤ length (g .thresholds)) where
+    pub report-torn : tornTo references t n g ≡ true → refused 3 ≡ reportOf references t n point g
+    unfolding reportOf
+    report-torn e = rw (le-ltb _ _ h, le-ltb _ _ k, e)
+
+    pub report-whole : {middle raw hits all total : ℕ} → middle ≡ min point n → SoFar references t middle g raw hits → SoFar references t n g all total → gives (record { hits = hits; total = total }) ≡ reportOf references t n point g
+    unfolding reportOf tornTo
+    report-whole e m s = rw (le-ltb _ _ h, le-ltb _ _ k, s .whole, le-ltb (256 * references) (rawTo n g) (omega (arith, s .raw-is, s .raw-high)), ← e, ← m .sum-is, ← s .sum-is)
+
+-- ---- what a caller needs besides
+
+-- the needed buckets, in tables that have them
+module _ (references t buckets : ℕ) (g : Histogram) (h : needed buckets ≤ length (g .counts)) (k : needed buckets ≤ length (g .thresholds)) where
+  -- a bucket that is needed is recorded in unless it is torn
+  pub recorded-needed : (j : ℕ) → j < needed buckets → recordedOf references t j g ≡ cond (tornAt references t j g) (record { done = false; histogram = g }) (record { done = true; histogram = recordIn t j g })
+  unfolding recordedOf unrecordable
+  recorded-needed j l = rw (lt-leb (length (g .counts)) j (omega arith), lt-leb (length (g .thresholds)) j (omega arith))
+
+  -- the report of a point is torn as the rules say, or gives its hits and the total
+  pub report-needed : (point : ℕ) → point ≤ needed buckets → reportOf references t (needed buckets) point g ≡ cond (tornReport references t buckets g) (refused 3) (gives (record { hits = hitsAt t point g; total = totalOf t buckets g }))
+  unfolding reportOf tornTo tornReport
+  report-needed point l = rw (le-ltb _ _ h, le-ltb _ _ k, (let e : min point (needed buckets) ≡ point = omega arith in e))
+
+-- no table becomes longer or shorter
+pub recorded-lengths : (references t j : ℕ) (g : Histogram) → (length (recordedOf references t j g .histogram .counts) ≡ length (g .counts)) × (length (recordedOf references t j g .histogram .thresholds) ≡ length (g .thresholds))
+unfolding recordedOf
+recorded-lengths references t j g = cases (unrecordable references t j g) (λ e. rw e (refl, refl)) (λ e. rw e (simp length-set, simp length-set))

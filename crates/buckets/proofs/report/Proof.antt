@@ -1,0 +1,71 @@
+use native.Mathlib.Omega.{arith}
+use borrow.Author.Needs.{needs}
+use borrow.Author.Tests.{lt-ltb, le-ltb}
+use Rattle.buckets.specs.Buckets.{reportOf}
+use Rattle.buckets.proofs.Laws.{torn-more, so-far-none, report-torn, report-whole}
+use Rattle.buckets.proofs.report.Statement.{statement}
+use Rattle.buckets.proofs.report.Tie as tie
+
+returns : tie.Need-returns
+unfolding reportOf
+returns c = rw (lt-ltb _ _ (c .if1 .taken))
+
+returns-2 : tie.Need-returns-2
+unfolding reportOf
+returns-2 c = rw (le-ltb _ _ (c .before .if1 .left), lt-ltb _ _ (c .if2 .taken))
+
+lesser-requires : tie.Need-lesser-requires
+lesser-requires c κs = search needs
+
+add-up-requires : tie.Need-add-up-requires
+add-up-requires c κs = (omega arith, omega arith, omega arith, so-far-none _ _ _)
+
+enum-known-hits : tie.Need-enum-known-hits
+enum-known-hits c = search needs
+
+enum-told : tie.Need-enum-told
+enum-told c = search needs
+
+returns-3 : tie.Need-returns-3
+returns-3 c =
+    let l = c .before .before .before in
+    report-torn _ _ _ _ _ (l .before .before .if1 .left) (l .before .if2 .left) (torn-more _ _ _ _ _ (omega arith) (rw (c .enum-told .given .1) at (c .before .before .add-up .ensures)))
+
+add-up-requires-2 : tie.Need-add-up-requires-2
+add-up-requires-2 c κs = (omega arith, omega arith, omega arith, rw (c .before .hits .given .1) at (c .before .before .before .add-up .ensures))
+
+enum-known-total : tie.Need-enum-known-total
+enum-known-total c = search needs
+
+enum-told-2 : tie.Need-enum-told-2
+enum-told-2 c = search needs
+
+returns-4 : tie.Need-returns-4
+returns-4 c =
+    let l = c .before .before .before .before .before .before .before in
+    report-torn _ _ _ _ _ (l .before .before .if1 .left) (l .before .if2 .left) (rw (c .enum-told2 .given .1) at (c .before .before .add-up2 .ensures))
+
+returns-5 : tie.Need-returns-5
+returns-5 c =
+    let m = c .before .before .before .before .before in
+    let l = m .before .before .before in
+    report-whole _ _ _ _ _ (l .before .before .if1 .left) (l .before .if2 .left) (l .lesser .ensures)
+    (rw (m .hits .given .1) at (m .before .before .add-up .ensures))
+    (rw (c .before .total .given .1) at (c .before .before .before .add-up2 .ensures))
+
+pub report-spec : {M : Type 1} → statement M
+report-spec =
+    tie.close
+    (tie.spec
+    returns
+    returns-2
+    lesser-requires
+    add-up-requires
+    enum-known-hits
+    enum-told
+    returns-3
+    add-up-requires-2
+    enum-known-total
+    enum-told-2
+    returns-4
+    returns-5)

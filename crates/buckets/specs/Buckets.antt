@@ -1,0 +1,56 @@
+-- What is done to the histogram, and what is read of it. Assumes nothing.
+use Prim.Native.Nat.{ℕ, _*_, _≤_, min}
+use mathlib.Core.Path.{_≡_}
+use mathlib.Core.Bool.{Bool, true, false, cond, _||_}
+use mathlib.Core.List.{List}
+use lib.Dec.{ltb, leb}
+use lib.ListN.{length}
+use Rattle.rules.specs.declared.Sums.{Sums}
+use Rattle.rules.specs.Settings.{Histogram}
+use Rattle.rules.specs.Reference.{recordIn}
+use Rattle.rules.specs.Curve.{sumTo, rawTo}
+use Rattle.rules.specs.Answers.{Said, refused, gives}
+use Rattle.rules.specs.Refusals.{bucketsOf, tornAt, anyTorn}
+use Rattle.buckets.specs.declared.Added.{Added}
+use Rattle.buckets.specs.declared.Added.the-variants as added
+
+-- whether a reference was recorded, and the histogram then
+pub record Recorded : Type 0 where
+  pub done : Bool
+  pub histogram : Histogram
+
+abbrev pub recorded : Bool → (counts thresholds : List ℕ) → Recorded
+recorded done counts thresholds = record { done = done; histogram = bucketsOf counts thresholds }
+
+-- place j is outside a table, or its bucket is torn
+unfoldable pub unrecordable : (references t j : ℕ) → Histogram → Bool
+unrecordable references t j g = leb (length (g .counts)) j || leb (length (g .thresholds)) j || tornAt references t j g
+
+-- one reference in bucket j under t
+unfoldable pub recordedOf : (references t j : ℕ) → Histogram → Recorded
+recordedOf references t j g =
+    cond (unrecordable references t j g) (record { done = false; histogram = g })
+    (record { done = true; histogram = recordIn t j g })
+
+-- of the buckets below n one is torn, or their raw counts sum above 256·references
+unfoldable pub tornTo : (references t n : ℕ) → Histogram → Bool
+tornTo references t n g = anyTorn references t n g || ltb (256 * references) (rawTo n g)
+
+-- what the first n buckets say when they are reported under t
+unfoldable pub reportOf : (references t n point : ℕ) → Histogram → Said Sums
+reportOf references t n point g =
+    cond (ltb (length (g .counts)) n || ltb (length (g .thresholds)) n || tornTo references t n g) (refused 3)
+    (gives (record { hits = sumTo t (min point n) g; total = sumTo t n g }))
+
+-- the buckets below n are not torn, and add up to raw and sum
+pub record SoFar (references t n : ℕ) (g : Histogram) (raw sum : ℕ) : Type 0 where
+  pub whole : anyTorn references t n g ≡ false
+  pub raw-is : raw ≡ rawTo n g
+  pub sum-is : sum ≡ sumTo t n g
+  pub raw-high : raw ≤ 256 * references
+  pub sum-high : sum ≤ raw
+
+-- what is answered of the buckets below n
+abbrev pub addedTo : (references t n : ℕ) → Histogram → Added → Type 0
+addedTo references t n g (added.Whole a) = SoFar references t n g (a .raw) (a .sum)
+addedTo references t n g added.Torn = tornTo references t n g ≡ true

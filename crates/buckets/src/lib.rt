@@ -1,0 +1,138 @@
+// The histogram in its two lent tables: a count in units of 1/256 reference to each bucket, and the threshold it was last recorded under.
+use rules::Reported;
+use rules::Sums;
+ghost use mathlib.Core.Path.{_≡_};
+ghost use mathlib.Core.Bool.{false};
+ghost use Prim.Native.Nat.{_≤_, min};
+ghost use lib.ListN.{length};
+ghost use Rattle.rules.specs.Refusals.{bucketsOf, tornBucket};
+ghost use Rattle.rules.specs.Answers.{saidReported};
+ghost use Rattle.buckets.specs.Buckets.{recorded, recordedOf, SoFar, addedTo, reportOf};
+
+// The raw counts of some buckets together, and the same as they are reported.
+struct Adding {
+    raw: u64,
+    sum: u64,
+}
+
+// What some buckets add up to, or that one is torn or their raw counts are too many.
+enum Added {
+    Whole(Adding),
+    Torn,
+}
+
+fn lesser(a: usize, b: usize) -> usize
+    ensures { λ r. ⌜ r ≡ min a b ⌝ }
+{
+    if a < b { a } else { b }
+}
+
+// Whether a bucket with this count and this threshold of its own is torn.
+fn torn(count: u64, own: u32, threshold: u64, references: u32) -> bool
+    ensures { λ r. ⌜ r ≡ tornBucket references threshold count own ⌝ }
+{
+    let b = own as u64;
+    let most = 256 * (references as u64);
+    (b == 0) | (b < threshold) | (0x100_0000 < b) | (most < count)
+}
+
+// Records one reference in the bucket at a place. False: nothing changed, since the place is outside a table or the bucket is torn.
+pub fn record_in(
+    counts: &mut [u64],
+    thresholds: &mut [u32],
+    at: usize,
+    threshold: u64,
+    references: u32,
+) -> bool
+    ensures { λ r. ⌜ recorded r (now (counts .exit)) (now (thresholds .exit)) ≡ recordedOf references threshold at (bucketsOf (now (counts .entry)) (now (thresholds .entry))) ⌝ }
+{
+    if counts.len() <= at {
+        return false;
+    }
+    if thresholds.len() <= at {
+        return false;
+    }
+    let count = counts[at];
+    let own = thresholds[at];
+    if torn(count, own, threshold, references) {
+        return false;
+    }
+    let b = own as u64;
+    counts[at] = count * threshold / b + 256;
+    thresholds[at] = threshold as u32;
+    true
+}
+
+// Adds the buckets of a range to what those before it add up to.
+fn add_up(
+    counts: &[u64],
+    thresholds: &[u32],
+    from: usize,
+    to: usize,
+    adding: Adding,
+    threshold: u64,
+    references: u32,
+) -> Added
+    requires { ⌜ (from ≤ to) × (to ≤ length (now counts)) × (to ≤ length (now thresholds)) × SoFar references threshold from (bucketsOf (now counts) (now thresholds)) (adding .raw) (adding .sum) ⌝ }
+    ensures { λ r. ⌜ addedTo references threshold to (bucketsOf (now (counts .entry)) (now (thresholds .entry))) r ⌝ }
+{
+    let most = 256 * (references as u64);
+    let mut raw = adding.raw;
+    let mut sum = adding.sum;
+    let mut i = from;
+    while i < to {
+        let count = counts[i];
+        let own = thresholds[i];
+        if torn(count, own, threshold, references) {
+            return Added::Torn;
+        }
+        raw += count;
+        if most < raw {
+            return Added::Torn;
+        }
+        let b = own as u64;
+        sum += count * threshold / b;
+        i += 1;
+    }
+    Added::Whole(Adding { raw, sum })
+}
+
+// The first buckets, as many as are needed, reported under the threshold: the hits at a point and the total, in one pass.
+pub fn report(
+    counts: &[u64],
+    thresholds: &[u32],
+    needed: usize,
+    point: usize,
+    threshold: u64,
+    references: u32,
+) -> Reported
+    ensures { λ r. ⌜ saidReported r ≡ reportOf references threshold needed point (bucketsOf (now (counts .entry)) (now (thresholds .entry))) ⌝ }
+{
+    if counts.len() < needed {
+        return Reported::Torn;
+    }
+    if thresholds.len() < needed {
+        return Reported::Torn;
+    }
+    let middle = lesser(point, needed);
+    let none = Adding { raw: 0, sum: 0 };
+    let Added::Whole(hits) = add_up(counts, thresholds, 0, middle, none, threshold, references)
+    else {
+        return Reported::Torn;
+    };
+    let Added::Whole(total) = add_up(
+        counts,
+        thresholds,
+        middle,
+        needed,
+        hits,
+        threshold,
+        references,
+    ) else {
+        return Reported::Torn;
+    };
+    Reported::Sums(Sums {
+        hits: hits.sum,
+        total: total.sum,
+    })
+}
