@@ -198,7 +198,7 @@ pub moved-over : (x d n : ℕ) (xs : List ℕ) → d < n → n ≤ length xs →
 unfolding movedToFront
 moved-over x d n xs h k = rw (lt-ltb d (length xs) (omega arith)) (front-over x d n xs h k)
 
--- no table becomes longer or shorter
+-- no table becomes longer or shorter, and after a lowering there are no more locations than before
 pub moved-length : (d x : ℕ) (xs : List ℕ) → length (movedToFront d x xs) ≡ length xs
 unfolding movedToFront
 moved-length d x xs = cases (ltb d (length xs)) (λ e. rw e (front-length d x xs (ltb-true _ _ e))) (λ e. rw e)
@@ -206,5 +206,8 @@ moved-length d x xs = cases (ltb d (length xs)) (λ e. rw e (front-length d x xs
 pub kept-length : (hash : ℕ → ℕ) (t n : ℕ) (xs : List ℕ) → length (keptOf hash t n xs .table) ≡ length xs
 kept-length hash t n xs = over-length (keepBelow hash t (take n xs)) xs (omega (arith, keep-length (under hash t) (take n xs), length-take n xs))
 
+pub lowering-live : (hash : ℕ → ℕ) (t n x : ℕ) (xs : List ℕ) → loweringOf hash t n x xs .result .live ≤ min n (length xs)
+lowering-live hash t n x xs = omega (arith, lowered-length hash t x (take n xs), length-take n xs)
+
 pub lowering-length : (hash : ℕ → ℕ) (t n x : ℕ) (xs : List ℕ) → length (loweringOf hash t n x xs .table) ≡ length xs
-lowering-length hash t n x xs = over-length (keepBelow hash (lowered hash t (x ∷ take n xs)) (x ∷ take n xs)) xs (omega (arith, lowered-length hash t x (take n xs), length-take n xs))
+lowering-length hash t n x xs = over-length (keepBelow hash (lowered hash t (x ∷ take n xs)) (x ∷ take n xs)) xs (omega (arith, lowering-live hash t n x xs))

@@ -51,6 +51,7 @@ pub fn first_place(locations: &[u64], n: usize, location: u64) -> Found
 }
 
 // The location to the front: what stood before the place moves one back, and what stood at the place is gone.
+// A place past the end changes nothing.
 pub fn to_front(locations: &mut [u64], place: usize, location: u64)
     ensures { λ _. ⌜ now (locations .exit) ≡ movedToFront place location (now (locations .entry)) ⌝ }
 {

@@ -1,3 +1,4 @@
+-- The sums of a range. The loop's invariant: the buckets below i are not torn, and add up to raw and sum.
 use mathlib.Core.Path.{_≡_, sym, _∙_}
 use Prim.Native.Nat.{_≤_, _-_}
 use native.Mathlib.Omega.{arith}

@@ -1,3 +1,4 @@
+-- One reference recorded, or nothing changed.
 use mathlib.Core.Path.{sym, _∙_}
 use native.Mathlib.Omega.{arith}
 use borrow.Author.Tests.{le-leb, lt-leb}

@@ -1,3 +1,4 @@
+-- The report: the sums to the point, and on from there.
 use native.Mathlib.Omega.{arith}
 use borrow.Author.Needs.{needs}
 use borrow.Author.Tests.{lt-ltb, le-ltb}

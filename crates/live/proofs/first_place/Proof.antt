@@ -1,3 +1,4 @@
+-- The search. The loop's invariant: the first place in the list is the first place from here on.
 use mathlib.Core.Path.{_≡_, refl, sym, _∙_}
 use Prim.Native.Nat.{_-_}
 use native.Mathlib.Omega.{arith}

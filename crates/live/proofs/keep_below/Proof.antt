@@ -1,3 +1,4 @@
+-- The entries that stay. The loop's invariant: those of the first i stand over the front.
 use Prim.Native.Nat.{_≤_, _-_}
 use native.Mathlib.Omega.{arith}
 use borrow.Author.Needs.{needs}

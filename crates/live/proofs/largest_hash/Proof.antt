@@ -1,3 +1,4 @@
+-- The largest hash. The loop's invariant: it is the largest of the first i.
 use mathlib.Core.Path.{_≡_, refl, ap, _∙_}
 use Prim.Native.Nat.{_≤_, _-_}
 use native.Mathlib.Omega.{arith}

@@ -1,3 +1,4 @@
+-- A lowering, made of the other functions.
 use mathlib.Core.Path.{ap, _∙_}
 use native.Mathlib.Omega.{arith}
 use borrow.Author.Needs.{needs}

@@ -1,3 +1,4 @@
+-- The move to the front. The loop's invariant: what stood from i to the place has moved one back.
 use mathlib.Core.Path.{_≡_}
 use native.Mathlib.Omega.{arith}
 use borrow.Author.Needs.{needs}
