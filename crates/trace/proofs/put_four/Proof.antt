@@ -1,0 +1,37 @@
+use borrow.Author.Needs.{needs}
+use Rattle.trace.proofs.Numbers.{puts-two}
+use Rattle.trace.proofs.put_four.Statement.{statement}
+use Rattle.trace.proofs.put_four.Tie as tie
+
+cast-put-two : tie.Need-cast-put-two
+cast-put-two c = search needs
+
+put-two-requires : tie.Need-put-two-requires
+put-two-requires c κs = search needs
+
+add-put-two : tie.Need-add-put-two
+add-put-two c = search needs
+
+cast-put-two-2 : tie.Need-cast-put-two-2
+cast-put-two-2 c = search needs
+
+put-two-requires-2 : tie.Need-put-two-requires-2
+put-two-requires-2 c κs = search needs
+
+same-length : tie.Need-same-length
+same-length c = search needs
+
+returns : tie.Need-returns
+returns c = cc (puts-two 2 2 _ _ _)
+
+pub put-four-spec : {M : Type 1} → statement M
+put-four-spec =
+    tie.close
+    (tie.spec
+    cast-put-two
+    put-two-requires
+    add-put-two
+    cast-put-two-2
+    put-two-requires-2
+    same-length
+    returns)

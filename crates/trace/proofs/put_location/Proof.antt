@@ -1,0 +1,18 @@
+use borrow.Author.Needs.{needs}
+use Rattle.trace.proofs.put_location.Statement.{statement}
+use Rattle.trace.proofs.put_location.Tie as tie
+
+put-one-requires : tie.Need-put-one-requires
+put-one-requires c κs = search needs
+
+put-eight-requires : tie.Need-put-eight-requires
+put-eight-requires c κs = search needs
+
+same-length : tie.Need-same-length
+same-length c = search needs
+
+returns : tie.Need-returns
+returns c = cc
+
+pub put-location-spec : {M : Type 1} → statement M
+put-location-spec = tie.close (tie.spec put-one-requires put-eight-requires same-length returns)

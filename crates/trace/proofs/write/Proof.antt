@@ -1,0 +1,34 @@
+use borrow.Author.Needs.{needs}
+use Prim.Native.Nat.{_≤_, _<_}
+use mathlib.Core.Path.{_≡_, sym}
+use lib.ListN.{length}
+use denote.Ref.{now}
+use Rattle.rules.specs.Events.{eventLength}
+use Rattle.trace.proofs.Laws.{write-short, write-puts}
+use Rattle.trace.proofs.write.Statement.{statement}
+use Rattle.trace.proofs.write.Tie as tie
+
+size-requires : tie.Need-size-requires
+size-requires c κs = search needs
+
+returns : tie.Need-returns
+returns c =
+    let a = c .before .before .before .args in
+    let short : length (now (a .buffer)) < eventLength (a .event) = rw (← c .before .size .ensures) (c .if1 .taken) in
+    sym (write-short _ _ short)
+
+put-requires : tie.Need-put-requires
+put-requires c κs = search needs
+
+same-length : tie.Need-same-length
+same-length c = search needs
+
+returns-2 : tie.Need-returns-2
+returns-2 c =
+    let d = c .before .before .before .before in
+    let a = d .before .before .before .args in
+    let fits : eventLength (a .event) ≤ length (now (a .buffer)) = rw (← d .before .size .ensures) (d .if1 .left) in
+    cc (write-puts (a .event) (now (a .buffer)) fits)
+
+pub write-spec : {M : Type 1} → statement M
+write-spec = tie.close (tie.spec size-requires returns put-requires same-length returns-2)
