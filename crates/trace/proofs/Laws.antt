@@ -8,14 +8,16 @@ use native.Mathlib.Omega.{arith}
 use lib.Dec.{eqb, leb}
 use lib.ListN.{length, getD, drop}
 use lib.Seq.{sets, sets-eq}
-use borrow.Author.Tests.{eq-eqb, ne-eqb, le-leb, lt-leb, leb-true}
+use borrow.Author.Tests.{eq-eqb, ne-eqb, le-leb, lt-leb, eqb-true, leb-true, leb-false}
 use Rattle.rules.specs.declared.Event.{Event}
 use Rattle.rules.specs.declared.Event.the-variants.{Location, Span, Restart, Setup}
+use Rattle.rules.specs.declared.Reading.{Reading}
+use Rattle.rules.specs.declared.Reading.the-variants as reading
+use Rattle.rules.specs.declared.Written.the-variants as written
 use Rattle.rules.specs.Lists.{over}
-use Rattle.rules.specs.Answers.{Said, refused, gives, Got}
-use Rattle.rules.specs.Events.{numberAt, eventBytes, eventLength, bodyOf, whole, readOf, Filling, writeOf}
-use Rattle.trace.specs.Fits.{Fits, Bytes}
-use Rattle.trace.proofs.Numbers.{number-below}
+use Rattle.rules.specs.Answers.{Said, refused, gives, Got, saidReading}
+use Rattle.rules.specs.Events.{numberAt, eventBytes, eventLength, bodyOf, whole, readOf, Filling, writeOf, afterWritten}
+use Rattle.rules.proofs.Tests.{cases}
 
 -- ---- which case of reading it is
 
@@ -49,24 +51,21 @@ by-cond : {A : Type 0} (P : A → Type 0) (b : Bool) {x y : A} → (b ≡ true �
 by-cond P true f g = f refl
 by-cond P false f g = g refl
 
--- to show P of a reading, show it of the four events, each where it is whole, and of refusals
+-- to show P of a reading, show it of refusals, and of each kind of event where all its bytes are there
 module _ (P : Said Got → Type 0) (s : List ℕ) (none : (n : ℕ) → P (refused n)) where
-  by-whole : (n : ℕ) (e : Event) → (n ≤ length s → P (got e n)) → P (whole n e s)
-  by-whole n e f = by-cond P (leb n (length s)) (λ h. f (leb-true _ _ h)) (λ h. none 7)
+  by-whole : (k n : ℕ) (e : Event) {other : Said Got} → (getD s 0 0 ≡ k → n ≤ length s → P (got e n)) → P other → P (cond (eqb (getD s 0 0) k) (whole n e s) other)
+  by-whole k n e f g = by-cond P (eqb (getD s 0 0) k) (λ is. by-cond P (leb n (length s)) (λ h. f (eqb-true _ _ is) (leb-true _ _ h)) (λ h. none 7)) (λ is. g)
 
-  by-reading :
-      (9 ≤ length s → P (got (Location (numberAt 8 1 s)) 9))
-      → (13 ≤ length s → P (got (Span (numberAt 8 1 s) (numberAt 4 9 s)) 13))
-      → (1 ≤ length s → P (got Restart 1))
-      → (18 ≤ length s → P (got (Setup (bodyOf s)) 18))
+  pub by-reading :
+      (getD s 0 0 ≡ 1 → 9 ≤ length s → P (got (Location (numberAt 8 1 s)) 9))
+      → (getD s 0 0 ≡ 2 → 13 ≤ length s → P (got (Span (numberAt 8 1 s) (numberAt 4 9 s)) 13))
+      → (getD s 0 0 ≡ 3 → 1 ≤ length s → P (got Restart 1))
+      → (getD s 0 0 ≡ 4 → 18 ≤ length s → P (got (Setup (bodyOf s)) 18))
       → P (readOf s)
   unfolding readOf
   by-reading location span restart setup =
-      by-cond P (eqb (length s) 0) (λ h. none 7) (λ h.
-      by-cond P (eqb (getD s 0 0) 1) (λ h. by-whole 9 _ location) (λ h.
-      by-cond P (eqb (getD s 0 0) 2) (λ h. by-whole 13 _ span) (λ h.
-      by-cond P (eqb (getD s 0 0) 3) (λ h. by-whole 1 _ restart) (λ h.
-      by-cond P (eqb (getD s 0 0) 4) (λ h. by-whole 18 _ setup) (λ h. none 8)))))
+      by-cond P (eqb (length s) 0) (λ h. none 7)
+      (λ h. by-whole 1 9 _ location (by-whole 2 13 _ span (by-whole 3 1 _ restart (by-whole 4 18 _ setup (none 8)))))
 
 -- what is taken is something, and lies within the bytes
 abbrev Within : List ℕ → Said Got → Type 0
@@ -74,21 +73,11 @@ Within s (refused n) = Unit {0}
 Within s (gives g) = (0 < g .taken) × (g .taken ≤ length s)
 
 pub taken : (s : List ℕ) {g : Got} → readOf s ≡ gives g → (0 < g .taken) × (g .taken ≤ length s)
-taken s h = rw h at (by-reading (Within s) s (λ n. tt) (λ l. omega arith) (λ l. omega arith) (λ l. omega arith) (λ l. omega arith))
+taken s h = rw h at (by-reading (Within s) s (λ n. tt) (λ k l. omega arith) (λ k l. omega arith) (λ k l. omega arith) (λ k l. omega arith))
 
--- an event that was read fits its types
-abbrev Fitting : Said Got → Type 0
-Fitting (refused n) = Unit {0}
-Fitting (gives g) = Fits (g .event)
-
-pub read-fits : (s : List ℕ) {g : Got} → Bytes s → readOf s ≡ gives g → Fits (g .event)
-read-fits s b h =
-    let below : (n at : ℕ) → numberAt n at s < 256 ^ n = λ n at. number-below n at s b in
-    rw h at (by-reading Fitting s (λ n. tt)
-    (λ l. below 8 1)
-    (λ l. (below 8 1, below 4 9))
-    (λ l. tt)
-    (λ l. (below 4 1, below 4 5, below 4 9, below 4 13, below 1 17)))
+-- the same of an answer, for a caller's loop
+pub got-taken : (s : List ℕ) {r : Reading} {e : Event} {n : ℕ} → saidReading r ≡ readOf s → r ≡ reading.Got e n → (0 < n) × (n ≤ length s)
+got-taken s said is = taken s (sym said ∙ ap saidReading is)
 
 -- ---- writing
 
@@ -106,3 +95,9 @@ module _ (e : Event) (buffer : List ℕ) where
   write-puts h =
       let puts : sets buffer 0 (eventBytes e) ≡ over (eventBytes e) buffer = sets-eq (eventBytes e) buffer 0 (omega arith) ∙ simp zero-add in
       rw puts (write-fits h)
+
+  -- where something was filled it is the event, over the front of the buffer
+  pub write-filled : (n : ℕ) (after : List ℕ) → afterWritten (written.Filled n) after ≡ writeOf e buffer → (n ≡ eventLength e) × (after ≡ over (eventBytes e) buffer)
+  write-filled n after w = cases (leb (eventLength e) (length buffer))
+      (λ h. let k = w ∙ write-fits (leb-true _ _ h) in ((let q = ap (λ z. z .said) k in cc), ap (λ z. z .buffer) k))
+      (λ h. absurd (let k = ap (λ z. z .said) (w ∙ write-short (leb-false _ _ h)) in let z : _≡_ {A = ℕ} 0 1 = cc in omega arith))

@@ -4,9 +4,10 @@ use mathlib.Core.Path.{_≡_, refl, sym, ap, _∙_}
 use mathlib.Core.List.{List, [], _∷_, _++_}
 use native.Mathlib.Nat.{zero-add, add-zero, suc-add, add-suc, pow-suc, mod-add-div, mod-lt, add-mul-mod-self-left, add-mul-div-left}
 use native.Mathlib.Omega.{arith}
-use lib.ListN.{length, getD, set}
-use lib.Seq.{sets}
+use lib.ListN.{length, getD, take, drop, set, take-append-drop}
+use lib.Seq.{drop-cons, getD-drop, sets}
 use Rattle.rules.specs.Events.{bytesOf, numberAt}
+use Rattle.trace.specs.Fits.{Bytes}
 
 -- ---- m bytes, and n behind them
 
@@ -45,24 +46,36 @@ puts-two m n at x l =
 
 -- ---- a number is what its bytes hold
 
-shift : (n at y : ℕ) (s : List ℕ) → numberAt n (suc at) (y ∷ s) ≡ numberAt n at s
-shift zero at y s = refl
-shift (suc n) at y s = ap (λ (k : ℕ). getD s at 0 + 256 * k) (shift n (suc at) y s)
-
--- behind any bytes
-behind : (n : ℕ) (a s : List ℕ) → numberAt n (length a) (a ++ s) ≡ numberAt n 0 s
-behind n [] s = refl
-behind n (y ∷ a) s = shift n (length a) y (a ++ s) ∙ behind n a s
+-- the places of what is left of a list
+number-drop : (n k at : ℕ) (s : List ℕ) → numberAt n at (drop k s) ≡ numberAt n (k + at) s
+number-drop zero k at s = refl
+number-drop (suc n) k at s = rw (getD-drop k s at 0, number-drop n k (suc at) s, add-suc k at)
 
 at-front : (n x : ℕ) (rest : List ℕ) → x < 256 ^ n → numberAt n 0 (bytesOf n x ++ rest) ≡ x
 at-front zero x rest h = omega arith
-at-front (suc n) x rest h = omega (arith, shift n 0 (x % 256) (bytesOf n (x / 256) ++ rest), at-front n (x / 256) rest (omega arith))
+at-front (suc n) x rest h =
+    omega (arith, pow-suc 256 n, number-drop n 1 0 (bytesOf (suc n) x ++ rest), at-front n (x / 256) rest (omega (arith, pow-suc 256 n)))
 
-pub number-bytes : (n x : ℕ) (before rest : List ℕ) → x < 256 ^ n → numberAt n (length before) (before ++ (bytesOf n x ++ rest)) ≡ x
-number-bytes n x before rest h = behind n before (bytesOf n x ++ rest) ∙ at-front n x rest h
+pub number-bytes : (n at x : ℕ) (s : List ℕ) → x < 256 ^ n → take n (drop at s) ≡ bytesOf n x → numberAt n at s ≡ x
+number-bytes n at x s h is =
+    ap (λ (i : ℕ). numberAt n i s) (sym (add-zero at))
+    ∙ sym (number-drop n at 0 s)
+    ∙ ap (numberAt n 0) (sym (take-append-drop n (drop at s)))
+    ∙ rw is (at-front n x (drop n (drop at s)) h)
 
--- ---- n bytes hold no more than n bytes can
+-- ---- and the bytes are those of the number, if they are bytes
 
-pub number-below : (n at : ℕ) (s : List ℕ) → ((i : ℕ) → getD s i 0 < 256) → numberAt n at s < 256 ^ n
-number-below zero at s b = omega arith
-number-below (suc n) at s b = omega (arith, b at, number-below n (suc at) s b)
+module _ (s : List ℕ) (b : Bytes s) where
+  pub number-below : (n at : ℕ) → numberAt n at s < 256 ^ n
+  number-below zero at = omega arith
+  number-below (suc n) at = omega (arith, pow-suc 256 n, b at, number-below n (suc at))
+
+  pub bytes-number : (n at : ℕ) → at + n ≤ length s → bytesOf n (numberAt n at s) ++ drop (at + n) s ≡ drop at s
+  bytes-number zero at h = rw add-zero
+  bytes-number (suc n) at h =
+      let first = getD s at 0 in
+      let more = numberAt n (suc at) s in
+      let below : first < 256 = b at in
+      let low : (first + 256 * more) % 256 ≡ first = omega arith in
+      let high : (first + 256 * more) / 256 ≡ more = omega arith in
+      rw (low, high, add-suc at n, ← suc-add at n, drop-cons s at 0 (omega arith)) (ap (λ (l : List ℕ). first ∷ l) (bytes-number n (suc at) (omega arith)))

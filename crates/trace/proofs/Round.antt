@@ -1,0 +1,90 @@
+-- What was written is read back, with any bytes behind it. Assumes nothing.
+use Prim.Native.Nat.{ℕ, _+_, _≤_, _<_, _^_}
+use mathlib.Core.Path.{_≡_, refl, sym, ap, _∙_}
+use mathlib.Core.Bool.{true}
+use mathlib.Core.List.{List, [], _∷_, _++_}
+use native.Mathlib.Omega.{arith}
+use lib.Dec.{leb}
+use lib.ListN.{length, getD, drop}
+use lib.Seq.{drop-append-seam, drop-cons}
+use borrow.Author.Tests.{le-leb}
+use Rattle.rules.specs.declared.Event.{Event}
+use Rattle.rules.specs.declared.Event.the-variants.{Location, Span, Restart, Setup}
+use Rattle.rules.specs.declared.Reading.{Reading}
+use Rattle.rules.specs.declared.Reading.the-variants as reading
+use Rattle.rules.specs.declared.Written.the-variants as written
+use Rattle.rules.specs.Answers.{Said, refused, gives, Got, saidReading}
+use Rattle.rules.specs.Events.{bytesOf, numberAt, eventBytes, eventLength, readOf, unreadOf, writeOf, afterWritten}
+use Rattle.rules.proofs.Answers.{reading-injective}
+use Rattle.trace.specs.Fits.{Fits, Bytes}
+use Rattle.trace.proofs.Numbers.{number-bytes, number-below, bytes-number}
+use Rattle.trace.proofs.Laws.{got, read-kind, by-reading, write-filled}
+
+there : (n : ℕ) (e : Event) (rest : List ℕ) → n ≤ length (eventBytes e ++ rest) → leb n (length (eventBytes e ++ rest)) ≡ true
+there n e rest h = le-leb _ _ h
+
+-- reading an event's bytes gives the event with its length
+pub round : (e : Event) (rest : List ℕ) → Fits e → readOf (eventBytes e ++ rest) ≡ got e (eventLength e)
+round (Location x) rest f =
+    read-kind 1 _ (λ z. omega arith) refl
+    ∙ simp (there 9 (Location x) rest (omega arith), number-bytes 8 1 x (eventBytes (Location x) ++ rest) f refl)
+round (Span o n) rest f =
+    let s = eventBytes (Span o n) ++ rest in
+    read-kind 2 _ (λ z. omega arith) refl
+    ∙ simp (there 13 (Span o n) rest (omega arith), number-bytes 8 1 o s (f .0) refl, number-bytes 4 9 n s (f .1) refl)
+round Restart rest f = read-kind 3 _ (λ z. omega arith) refl ∙ simp (there 1 Restart rest (omega arith))
+round (Setup b) rest f =
+    let s = eventBytes (Setup b) ++ rest in
+    read-kind 4 _ (λ z. omega arith) refl
+    ∙ simp (
+      there 18 (Setup b) rest (omega arith),
+      number-bytes 4 1 (b .limit) s (f .0) refl,
+      number-bytes 4 5 (b .start) s (f .1) refl,
+      number-bytes 4 9 (b .width) s (f .2) refl,
+      number-bytes 4 13 (b .buckets) s (f .3) refl,
+      number-bytes 1 17 (b .kind) s (f .4) refl,
+    )
+
+-- and what is unread is what stood behind it
+pub round-unread : (e : Event) (rest : List ℕ) → Fits e → unreadOf (eventBytes e ++ rest) ≡ rest
+round-unread e rest f = rw (round e rest f) (drop-append-seam (eventBytes e) rest)
+
+-- by the promises alone: where `write` filled n bytes of a buffer, `read` of that buffer answers the event with n
+module _ (e : Event) (n : ℕ) (before after : List ℕ) (f : Fits e) (w : afterWritten (written.Filled n) after ≡ writeOf e before) where
+  pub written-read : (q : Reading) → saidReading q ≡ readOf after → q ≡ reading.Got e n
+  written-read q r =
+      let k = write-filled e before n after w in
+      reading-injective q (reading.Got e n) (r ∙ rw (k .1, k .0) (round e (drop (eventLength e) before) f))
+
+  -- and `unread` hands back what stood behind those bytes beforehand
+  pub written-unread : unreadOf after ≡ drop n before
+  written-unread =
+      let k = write-filled e before n after w in
+      rw (k .1, k .0) (round-unread e (drop (eventLength e) before) f)
+
+-- ---- the other way round
+
+-- an event that was read fits its types, and its bytes are those that were read
+abbrev Back : List ℕ → Said Got → Type 0
+Back s (refused n) = Unit {0}
+Back s (gives g) = Fits (g .event) × (eventBytes (g .event) ++ drop (g .taken) s ≡ s)
+
+pub back : (s : List ℕ) {g : Got} → Bytes s → readOf s ≡ gives g → Fits (g .event) × (eventBytes (g .event) ++ drop (g .taken) s ≡ s)
+back s b h =
+    rw h at (by-reading (Back s) s (λ n. tt)
+    (λ k l. (below 8 1, kind 1 k (omega arith) (put 8 1 (omega arith) refl)))
+    (λ k l. ((below 8 1, below 4 9), kind 2 k (omega arith) (put 8 1 (omega arith) (put 4 9 (omega arith) refl))))
+    (λ k l. (tt, kind 3 k (omega arith) refl))
+    (λ k l. (
+      (below 4 1, below 4 5, below 4 9, below 4 13, below 1 17),
+      kind 4 k (omega arith) (put 4 1 (omega arith) (put 4 5 (omega arith) (put 4 9 (omega arith) (put 4 13 (omega arith) (put 1 17 (omega arith) refl))))),
+    )))
+  where
+    below : (n at : ℕ) → numberAt n at s < 256 ^ n
+    below = number-below s b
+
+    kind : (k : ℕ) {rest : List ℕ} → getD s 0 0 ≡ k → 0 < length s → rest ≡ drop 1 s → k ∷ rest ≡ s
+    kind k is some e = rw (e, ← is) (sym (drop-cons s 0 0 some))
+
+    put : (n at : ℕ) {rest : List ℕ} → at + n ≤ length s → rest ≡ drop (at + n) s → bytesOf n (numberAt n at s) ++ rest ≡ drop at s
+    put n at h e = rw e (bytes-number s b n at h)
