@@ -1,12 +1,12 @@
--- Laws of reading and writing. Assumes nothing.
-use Prim.Native.Nat.{ℕ, _^_, _≤_, _<_}
+-- Laws of reading and writing: which case it is, and what holds of any reading. Assumes nothing.
+use Prim.Native.Nat.{ℕ, _≤_, _<_}
 use mathlib.Core.Path.{_≡_, refl, sym, ap, _∙_}
 use mathlib.Core.Bool.{Bool, true, false, cond}
-use mathlib.Core.List.{List, [], _∷_, _++_}
+use mathlib.Core.List.{List}
 use native.Mathlib.Nat.{zero-add}
 use native.Mathlib.Omega.{arith}
 use lib.Dec.{eqb, leb}
-use lib.ListN.{length, getD, drop}
+use lib.ListN.{length, getD}
 use lib.Seq.{sets, sets-eq}
 use borrow.Author.Tests.{eq-eqb, ne-eqb, le-leb, lt-leb, eqb-true, leb-true, leb-false}
 use Rattle.rules.specs.declared.Event.{Event}
@@ -16,7 +16,7 @@ use Rattle.rules.specs.declared.Reading.the-variants as reading
 use Rattle.rules.specs.declared.Written.the-variants as written
 use Rattle.rules.specs.Lists.{over}
 use Rattle.rules.specs.Answers.{Said, refused, gives, Got, saidReading}
-use Rattle.rules.specs.Events.{numberAt, eventBytes, eventLength, bodyOf, whole, readOf, Filling, writeOf, afterWritten}
+use Rattle.rules.specs.Events.{numberAt, eventBytes, eventLength, bodyOf, whole, readOf, writeOf, afterWritten}
 use Rattle.rules.proofs.Tests.{cases}
 
 -- ---- which case of reading it is
@@ -24,7 +24,7 @@ use Rattle.rules.proofs.Tests.{cases}
 abbrev pub got : Event → ℕ → Said Got
 got e n = gives (record { event = e; taken = n })
 
--- what reading says of bytes whose first is k
+-- the rule of reading, with k for the first byte
 abbrev pub ofKind : (k : ℕ) → List ℕ → Said Got
 ofKind k s =
     cond (eqb k 1) (whole 9 (Location (numberAt 8 1 s)) s)

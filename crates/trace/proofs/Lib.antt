@@ -1,4 +1,4 @@
-pub mod Numbers
+pub mod LittleEndian
 pub mod Laws
 pub mod Round
 pub mod Unique

@@ -1,8 +1,8 @@
 -- What was written is read back, with any bytes behind it. Assumes nothing.
 use Prim.Native.Nat.{ℕ, _+_, _≤_, _<_, _^_}
-use mathlib.Core.Path.{_≡_, refl, sym, ap, _∙_}
+use mathlib.Core.Path.{_≡_, refl, sym, _∙_}
 use mathlib.Core.Bool.{true}
-use mathlib.Core.List.{List, [], _∷_, _++_}
+use mathlib.Core.List.{List, _∷_, _++_}
 use native.Mathlib.Omega.{arith}
 use lib.Dec.{leb}
 use lib.ListN.{length, getD, drop}
@@ -17,7 +17,7 @@ use Rattle.rules.specs.Answers.{Said, refused, gives, Got, saidReading}
 use Rattle.rules.specs.Events.{bytesOf, numberAt, eventBytes, eventLength, readOf, unreadOf, writeOf, afterWritten}
 use Rattle.rules.proofs.Answers.{reading-injective}
 use Rattle.trace.specs.Fits.{Fits, Bytes}
-use Rattle.trace.proofs.Numbers.{number-bytes, number-below, bytes-number}
+use Rattle.trace.proofs.LittleEndian.{number-bytes, number-below, bytes-number}
 use Rattle.trace.proofs.Laws.{got, read-kind, by-reading, write-filled}
 
 there : (n : ℕ) (e : Event) (rest : List ℕ) → n ≤ length (eventBytes e ++ rest) → leb n (length (eventBytes e ++ rest)) ≡ true

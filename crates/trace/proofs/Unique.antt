@@ -6,7 +6,7 @@ use Rattle.rules.specs.declared.Event.{Event}
 use Rattle.rules.specs.declared.Reading.{Reading}
 use Rattle.rules.specs.declared.Written.{Written}
 use Rattle.rules.specs.Answers.{saidReading}
-use Rattle.rules.specs.Events.{readOf, unreadOf, Filling, writeOf, afterWritten}
+use Rattle.rules.specs.Events.{readOf, unreadOf, writeOf, afterWritten}
 use Rattle.rules.proofs.Answers.{reading-injective, written-injective}
 
 pub read-once : (bytes : List ℕ) (a b : Reading) → saidReading a ≡ readOf bytes → saidReading b ≡ readOf bytes → a ≡ b

@@ -1,7 +1,7 @@
 // Trace events: read from bytes, and written to them. Document 01, "Trace events".
 ghost use mathlib.Core.Path.{_≡_};
 ghost use Prim.Native.Nat.{_+_, _≤_};
-ghost use lib.ListN.{length};
+ghost use lib.ListN.{length, drop};
 ghost use lib.Seq.{sets};
 ghost use Rattle.rules.specs.Answers.{saidReading};
 ghost use Rattle.rules.specs.Events.{bytesOf, numberAt, eventBytes, eventLength, bodyOf, whole, readOf, unreadOf, writeOf, afterWritten};
@@ -99,13 +99,20 @@ pub fn read(bytes: &[u8]) -> Reading
     }
 }
 
+fn rest(bytes: &[u8], at: usize) -> &[u8]
+    requires { ⌜ at ≤ length (now bytes) ⌝ }
+    ensures { λ r. ⌜ now r ≡ drop at (now (bytes .entry)) ⌝ }
+{
+    &bytes[at..]
+}
+
 // What follows the first event, or all of the bytes when that event is refused.
 pub fn unread(bytes: &[u8]) -> &[u8]
     ensures { λ r. ⌜ now r ≡ unreadOf (now (bytes .entry)) ⌝ }
 {
     match read(bytes) {
-        Reading::Got(_, taken) => &bytes[taken..],
-        Reading::Refused(_) => bytes,
+        Reading::Got(_, taken) => rest(bytes, taken),
+        Reading::Refused(_) => rest(bytes, 0),
     }
 }
 

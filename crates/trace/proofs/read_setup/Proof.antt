@@ -1,10 +1,13 @@
 use borrow.Author.Needs.{needs}
+use native.Mathlib.Omega.{arith}
+use lib.ListN.{length}
+use denote.Ref.{now}
 use borrow.Author.Tests.{lt-leb, le-leb}
 use Rattle.trace.proofs.read_setup.Statement.{statement}
 use Rattle.trace.proofs.read_setup.Tie as tie
 
 returns : tie.Need-returns
-returns c = simp (lt-leb _ _ (c .if1 .taken))
+returns c = simp (lt-leb 18 (length (now (c .before .before .args .bytes))) (omega arith))
 
 four-at-requires : tie.Need-four-at-requires
 four-at-requires c κs = search needs

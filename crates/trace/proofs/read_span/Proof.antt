@@ -1,10 +1,13 @@
 use borrow.Author.Needs.{needs}
+use native.Mathlib.Omega.{arith}
+use lib.ListN.{length}
+use denote.Ref.{now}
 use borrow.Author.Tests.{lt-leb, le-leb}
 use Rattle.trace.proofs.read_span.Statement.{statement}
 use Rattle.trace.proofs.read_span.Tie as tie
 
 returns : tie.Need-returns
-returns c = simp (lt-leb _ _ (c .if1 .taken))
+returns c = simp (lt-leb 13 (length (now (c .before .before .args .bytes))) (omega arith))
 
 eight-at-requires : tie.Need-eight-at-requires
 eight-at-requires c κs = search needs

@@ -1,6 +1,6 @@
 use borrow.Author.Needs.{needs}
 use Prim.Native.Nat.{_≤_, _<_}
-use mathlib.Core.Path.{_≡_, sym}
+use mathlib.Core.Path.{sym}
 use lib.ListN.{length}
 use denote.Ref.{now}
 use Rattle.rules.specs.Events.{eventLength}

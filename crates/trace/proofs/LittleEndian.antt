@@ -24,9 +24,9 @@ bytes-join (suc m) n low high h =
     rw (suc-add, e, add-mul-mod-self-left low 256 (256 ^ m * high), add-mul-div-left low (256 ^ m * high) {y = 256} (omega arith))
     (ap (λ (l : List ℕ). low % 256 ∷ l) (bytes-join m n (low / 256) high (omega (arith, pow-suc 256 m))))
 
-some : (m : ℕ) → 0 < 256 ^ m
-some zero = omega arith
-some (suc m) = omega (arith, some m, pow-suc 256 m)
+positive : (m : ℕ) → 0 < 256 ^ m
+positive zero = omega arith
+positive (suc m) = omega (arith, positive m, pow-suc 256 m)
 
 length-bytes : (n x : ℕ) → length (bytesOf n x) ≡ n
 length-bytes zero x = refl
@@ -42,7 +42,7 @@ puts-two m n at x l =
     let high = x / 256 ^ m in
     ap (λ (k : ℕ). sets (sets l at (bytesOf m low)) (at + k) (bytesOf n high)) (sym (length-bytes m low))
     ∙ sets-append l (bytesOf m low) (bytesOf n high) at
-    ∙ ap (sets l at) (sym (bytes-join m n low high (mod-lt x (some m))) ∙ ap (bytesOf (m + n)) (mod-add-div x (256 ^ m)))
+    ∙ ap (sets l at) (sym (bytes-join m n low high (mod-lt x (positive m))) ∙ ap (bytesOf (m + n)) (mod-add-div x (256 ^ m)))
 
 -- ---- a number is what its bytes hold
 
