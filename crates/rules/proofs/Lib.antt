@@ -13,3 +13,6 @@ pub mod Fresh
 pub mod Clean
 pub mod Bounds
 pub mod Calls
+pub mod LittleEndian
+pub mod Events
+pub mod Round

@@ -1,4 +1,1 @@
-pub mod LittleEndian
-pub mod Laws
-pub mod Round
 pub mod Unique

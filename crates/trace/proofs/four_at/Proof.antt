@@ -1,7 +1,7 @@
 use borrow.Author.Needs.{needs}
 use native.Mathlib.Omega.{arith}
 use denote.Ref.{now}
-use Rattle.trace.proofs.LittleEndian.{number-two}
+use Rattle.rules.proofs.LittleEndian.{number-two}
 use Rattle.trace.proofs.four_at.Statement.{statement}
 use Rattle.trace.proofs.four_at.Tie as tie
 

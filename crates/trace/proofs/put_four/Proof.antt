@@ -1,5 +1,5 @@
 use borrow.Author.Needs.{needs}
-use Rattle.trace.proofs.LittleEndian.{puts-two}
+use Rattle.rules.proofs.LittleEndian.{puts-two}
 use Rattle.trace.proofs.put_four.Statement.{statement}
 use Rattle.trace.proofs.put_four.Tie as tie
 

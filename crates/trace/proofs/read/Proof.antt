@@ -2,7 +2,7 @@ use borrow.Author.Needs.{needs}
 use native.Mathlib.Nat.{pos-of-ne-zero}
 use borrow.Author.Tests.{le-leb}
 use mathlib.Core.Path.{sym, _∙_}
-use Rattle.trace.proofs.Laws.{read-empty, read-kind, read-other}
+use Rattle.rules.proofs.Events.{read-empty, read-kind, read-other}
 use Rattle.trace.proofs.read.Statement.{statement}
 use Rattle.trace.proofs.read.Tie as tie
 

@@ -1,7 +1,7 @@
 use borrow.Author.Needs.{needs}
 use mathlib.Core.Path.{sym, ap, _∙_}
 use Rattle.rules.specs.Answers.{saidReading}
-use Rattle.trace.proofs.Laws.{got-taken}
+use Rattle.rules.proofs.Events.{got-taken}
 use Rattle.trace.proofs.unread.Statement.{statement}
 use Rattle.trace.proofs.unread.Tie as tie
 

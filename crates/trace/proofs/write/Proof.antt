@@ -4,7 +4,7 @@ use mathlib.Core.Path.{sym}
 use lib.ListN.{length}
 use denote.Ref.{now}
 use Rattle.rules.specs.Events.{eventLength}
-use Rattle.trace.proofs.Laws.{write-short, write-puts}
+use Rattle.rules.proofs.Events.{write-short, write-puts}
 use Rattle.trace.proofs.write.Statement.{statement}
 use Rattle.trace.proofs.write.Tie as tie
 

@@ -6,8 +6,7 @@ use native.Mathlib.Nat.{zero-add, add-zero, suc-add, add-suc, pow-suc, mod-add-d
 use native.Mathlib.Omega.{arith}
 use lib.ListN.{length, getD, take, drop, set, take-append-drop}
 use lib.Seq.{drop-cons, getD-drop, sets}
-use Rattle.rules.specs.Events.{bytesOf, numberAt}
-use Rattle.trace.specs.Fits.{Bytes}
+use Rattle.rules.specs.Events.{bytesOf, numberAt, Bytes}
 
 -- ---- m bytes, and n behind them
 

@@ -8,17 +8,16 @@ use lib.Dec.{leb}
 use lib.ListN.{length, getD, drop}
 use lib.Seq.{drop-append-seam, drop-cons}
 use borrow.Author.Tests.{le-leb}
 use Rattle.rules.specs.declared.Event.{Event}
 use Rattle.rules.specs.declared.Event.the-variants.{Location, Span, Restart, Setup}
 use Rattle.rules.specs.declared.Reading.{Reading}
 use Rattle.rules.specs.declared.Reading.the-variants as reading
 use Rattle.rules.specs.declared.Written.the-variants as written
 use Rattle.rules.specs.Answers.{Said, refused, gives, Got, saidReading}
-use Rattle.rules.specs.Events.{bytesOf, numberAt, eventBytes, eventLength, readOf, unreadOf, writeOf, afterWritten}
+use Rattle.rules.specs.Events.{bytesOf, numberAt, eventBytes, eventLength, readOf, unreadOf, writeOf, afterWritten, Fits, Bytes}
 use Rattle.rules.proofs.Answers.{reading-injective}
-use Rattle.trace.specs.Fits.{Fits, Bytes}
-use Rattle.trace.proofs.LittleEndian.{number-bytes, number-below, bytes-number}
-use Rattle.trace.proofs.Laws.{got, read-kind, by-reading, write-filled}
+use Rattle.rules.proofs.LittleEndian.{number-bytes, number-below, bytes-number}
+use Rattle.rules.proofs.Events.{got, read-kind, by-reading, write-filled}
 
 there : (n : ℕ) (e : Event) (rest : List ℕ) → n ≤ length (eventBytes e ++ rest) → leb n (length (eventBytes e ++ rest)) ≡ true
 there n e rest h = le-leb _ _ h

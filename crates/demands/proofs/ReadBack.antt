@@ -1,0 +1,21 @@
+-- Demand 2: trace events written are read back the same. Assumes nothing.
+use Prim.Native.Nat.{ℕ}
+use mathlib.Core.Path.{_≡_, sym, ap, _∙_}
+use mathlib.Core.List.{List}
+use lib.ListN.{length, drop}
+use Rattle.rules.specs.declared.Event.{Event}
+use Rattle.rules.specs.declared.Written.the-variants as written
+use Rattle.rules.specs.Answers.{gives}
+use Rattle.rules.specs.Events.{eventLength, writeOf, afterWritten}
+use Rattle.rules.proofs.Events.{write-filled}
+use Rattle.rules.proofs.Round.{round}
+use Rattle.demands.specs.Statements.{ReadBack, WrittenReadBack}
+
+pub read-back : ReadBack
+read-back e f rest = round e rest f
+
+pub written-read-back : WrittenReadBack
+written-read-back e f buffer n said =
+    let w : afterWritten (written.Filled n) (writeOf e buffer .buffer) ≡ writeOf e buffer = λ i. record { said = sym said i; buffer = writeOf e buffer .buffer } in
+    let k = write-filled e buffer n (writeOf e buffer .buffer) w in
+    rw (k .1, k .0) (round e (drop (eventLength e) buffer) f)
