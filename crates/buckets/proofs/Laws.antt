@@ -1,48 +1,21 @@
 -- The laws of the histogram in its tables. Assumes nothing.
-use Prim.Native.Nat.{ℕ, zero, suc, _+_, _*_, _^_, _≤_, _<_, min}
+use Prim.Native.Nat.{ℕ, zero, suc, _+_, _*_, _≤_, _<_, min}
 use mathlib.Core.Path.{_≡_, refl, subst}
 use mathlib.Core.Logic.{⊎-elim}
 use mathlib.Core.Bool.{true, false, cond}
-use native.Mathlib.Nat.{mul-le-mul-left, mul-comm, div-le-of-le-mul, le-trans, le-of-eq, eq-or-lt-of-le, le-of-suc-le-suc}
+use native.Mathlib.Nat.{eq-or-lt-of-le, le-of-suc-le-suc}
 use native.Mathlib.Numerals.{add-one}
 use native.Mathlib.Omega.{arith}
 use lib.ListN.{length, length-set}
-use borrow.Author.Tests.{eqb-false, ltb-true, ltb-false, le-ltb, lt-ltb, lt-leb}
-use Rattle.rules.specs.Settings.{P, Histogram, needed}
+use borrow.Author.Tests.{ltb-true, le-ltb, lt-ltb, lt-leb}
+use Rattle.rules.specs.Settings.{Histogram, needed}
 use Rattle.rules.specs.Reference.{rescaled, countAt, thresholdAt, recordIn}
 use Rattle.rules.specs.Curve.{sumTo, rawTo, hitsAt, totalOf}
 use Rattle.rules.specs.Answers.{refused, gives}
-use Rattle.rules.specs.Refusals.{tornBucket, tornAt, anyTorn, tornReport}
-use Rattle.rules.proofs.Tests.{cases, neither, or-left, or-right}
+use Rattle.rules.specs.Refusals.{tornAt, anyTorn, tornReport}
+use Rattle.rules.proofs.Tests.{cases, or-left, or-right}
+use Rattle.rules.proofs.Bounds.{sound, sound-rescaled}
 use Rattle.buckets.specs.Buckets.{unrecordable, recordedOf, tornTo, reportOf, SoFar}
-
--- ---- a bucket that is not torn
-
-pub record Sound (references t count own : ℕ) : Type 0 where
-  pub some : own ≡ 0 → ⊥
-  pub above : t ≤ own
-  pub under : own ≤ P
-  pub counted : count ≤ 256 * references
-
-pub sound : (references t count own : ℕ) → tornBucket references t count own ≡ false → Sound references t count own
-unfolding tornBucket
-sound references t count own e =
-    let e3 = neither e in
-    let e2 = neither (e3 .0) in
-    let e1 = neither (e2 .0) in
-    record {
-      some = eqb-false own 0 (e1 .0);
-      above = ltb-false own t (e1 .1);
-      under = ltb-false P own (e2 .1);
-      counted = ltb-false (256 * references) count (e3 .1);
-    }
-
-module _ {references t count own : ℕ} (s : Sound references t count own) where
-  pub product-fits : references < 2 ^ 32 → count * t < 2 ^ 64
-  product-fits h = omega (arith, mul-le-mul-left count (le-trans (s .above) (s .under)))
-
-  pub rescaled-le : rescaled t count own ≤ count
-  rescaled-le = div-le-of-le-mul own (le-trans (mul-le-mul-left count (s .above)) (le-of-eq (mul-comm count own)))
 
 -- ---- torn buckets, and raw counts that are too many
 
@@ -90,7 +63,7 @@ module _ (references t : ℕ) (g : Histogram) where
     raw-is = rw (add-one, s .raw-is);
     sum-is = rw (add-one, s .sum-is);
     raw-high = h;
-    sum-high = omega (arith, s .sum-high, rescaled-le (sound references t (countAt i g) (thresholdAt i g) e));
+    sum-high = omega (arith, s .sum-high, sound-rescaled (sound references t (countAt i g) (thresholdAt i g) e));
   }
 
   -- ---- the report

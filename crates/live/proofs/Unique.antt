@@ -1,34 +1,20 @@
 -- Any two results that a promise of this crate allows coincide: what is answered, and every lent table at exit. Assumes nothing.
 use Prim.Native.Nat.{ℕ}
-use mathlib.Core.Path.{_≡_, refl, sym, ap, _∙_}
+use mathlib.Core.Path.{_≡_, sym, ap, _∙_}
 use mathlib.Core.List.{List}
-use mathlib.Core.Option.{Option, some, none}
 use lib.ListN.{take}
 use Rattle.rules.specs.declared.Hashing.{Hashing}
 use Rattle.rules.specs.declared.Found.{Found}
-use Rattle.rules.specs.declared.Found.the-variants as found
 use Rattle.rules.specs.Settings.{hashOf}
 use Rattle.rules.specs.Reference.{firstPlace, largest}
 use Rattle.rules.specs.Answers.{placeFound}
+use Rattle.rules.proofs.Answers.{found-injective}
 use Rattle.live.specs.declared.Lowered.{Lowered}
 use Rattle.live.specs.Live.{movedToFront, kept, keptOf, lowering, loweringOf}
 
--- the answer that says a place
-foundAt : Option ℕ → Found
-foundAt (some d) = found.At d
-foundAt none = found.Nothing
-
-found-back : (r : Found) → foundAt (placeFound r) ≡ r
-unfolding foundAt
-found-back (found.At d) = refl
-found-back found.Nothing = refl
-
-pub place-injective : (r s : Found) → placeFound r ≡ placeFound s → r ≡ s
-place-injective r s e = sym (found-back r) ∙ ap foundAt e ∙ found-back s
-
 module _ (xs : List ℕ) (n : ℕ) where
   pub first-place-unique : (x : ℕ) (r s : Found) → placeFound r ≡ firstPlace x (take n xs) → placeFound s ≡ firstPlace x (take n xs) → r ≡ s
-  first-place-unique x r s e f = place-injective r s (e ∙ sym f)
+  first-place-unique x r s e f = found-injective r s (e ∙ sym f)
 
   pub to-front-unique : (x : ℕ) (ys zs : List ℕ) → ys ≡ movedToFront n x xs → zs ≡ movedToFront n x xs → ys ≡ zs
   to-front-unique x ys zs e f = e ∙ sym f

@@ -10,9 +10,10 @@ use borrow.Author.Tests.{eqb-false, ltb-false, ne-eqb, le-ltb}
 use Rattle.rules.specs.declared.Settings.{Settings}
 use Rattle.rules.specs.declared.Record.{Record}
 use Rattle.rules.specs.Settings.{P, outOfRange, Histogram, Tables, needed, bucketsTooShort, tooShort, mostReferences}
+use Rattle.rules.specs.Reference.{rescaled}
 use Rattle.rules.specs.Refusals.{tornRecord, tornBucket}
 use Rattle.rules.proofs.Tests.{neither, or-neither}
-use Rattle.rules.proofs.Buckets.{Long}
+use Rattle.rules.proofs.Buckets.{Long, rescaled-le}
 
 -- settings in their ranges
 pub record InRange (s : Settings) : Type 0 where
@@ -128,6 +129,11 @@ pub not-torn : (references t count threshold : ℕ) → Sound references t count
 unfolding tornBucket
 not-torn references t count threshold s = rw (ne-eqb threshold 0 (s .some), le-ltb _ _ (s .above), le-ltb _ _ (s .under), le-ltb _ _ (s .counted))
 
--- its count times a threshold fits 64 bits
-pub product-fits : (references t count threshold : ℕ) → Sound references t count threshold → references < 2 ^ 32 → count * t < 2 ^ 64
-product-fits references t count threshold s h = omega (arith, mul-le-mul-left count (le-trans (s .above) (s .under)), s .counted)
+module _ {references t count threshold : ℕ} (s : Sound references t count threshold) where
+  -- its count times the threshold fits 64 bits
+  pub product-fits : references < 2 ^ 32 → count * t < 2 ^ 64
+  product-fits h = omega (arith, mul-le-mul-left count (le-trans (s .above) (s .under)), s .counted)
+
+  -- and rescaling never adds to it
+  pub sound-rescaled : rescaled t count threshold ≤ count
+  sound-rescaled = rescaled-le t count threshold (s .above)

@@ -212,7 +212,7 @@ abbrev pub afterStarted : Started → (locations counts thresholds : List ℕ) �
 afterStarted r locations counts thresholds = record { said = saidStarted r; tables = tablesOf locations counts thresholds }
 
 abbrev pub afterReferred : Referred → (locations counts thresholds : List ℕ) → Outcome Reply
-afterReferred r locations counts thresholds = record { said = saidAnswer (r .answer); left = held (r .record) locations counts thresholds }
+afterReferred r locations counts thresholds = record { said = saidAnswer (r .answer); left = held (r .kept) locations counts thresholds }
 
 abbrev pub afterApplied : Applied → (locations counts thresholds : List ℕ) → Outcome (Unit {0})
-afterApplied r locations counts thresholds = record { said = saidTaken (r .answer); left = held (r .record) locations counts thresholds }
+afterApplied r locations counts thresholds = record { said = saidTaken (r .answer); left = held (r .kept) locations counts thresholds }

@@ -63,7 +63,7 @@ pub enum Answer {
 
 // The answer to a reference, with the record as it is then.
 pub struct Referred {
-    pub record: Record,
+    pub kept: Record,
     pub answer: Answer,
 }
 
@@ -130,7 +130,7 @@ pub enum Taken {
 
 // The answer to a trace event, with the record as it is then.
 pub struct Applied {
-    pub record: Record,
+    pub kept: Record,
     pub answer: Taken,
 }
 

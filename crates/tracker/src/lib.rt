@@ -4,7 +4,7 @@ use rules::Answer;
 use rules::Applied;
 use rules::Body;
 use rules::Event;
-use rules::Hashing;
+use rules::Found;
 use rules::Numbers;
 use rules::PlotPoint;
 use rules::Plotted;
@@ -23,10 +23,12 @@ ghost use Prim.Native.Nat.{_+_, _<_, _≤_};
 ghost use lib.ListN.{length, replicate};
 ghost use Rattle.rules.specs.Lists.{over};
 ghost use Rattle.rules.specs.Settings.{withDefaults, orDefault, outOfRange, needed, tooShort, bucketsTooShort};
-ghost use Rattle.rules.specs.Reference.{first, again};
+ghost use mathlib.Core.Option.{some, none};
+ghost use Rattle.rules.specs.Reference.{widths, firstPlace, scaledDistance};
 ghost use Rattle.rules.specs.Answers.{saidPointed, saidPlotted};
 ghost use Rattle.rules.specs.Events.{settingsOf};
-ghost use Rattle.rules.specs.Refusals.{tornRecord, freshBuckets, freshRecord, bucketsOf, tablesOf, held, profileOf, counted, stale, afterStarted, afterReferred, afterApplied, setupOf, restartOf, referOf, pointOf, plotOf, applyOf};
+ghost use Rattle.rules.specs.Refusals.{tornRecord, freshBuckets, freshRecord, bucketsOf, tablesOf, held, liveOf, stale, afterStarted, afterReferred, afterApplied, setupOf, restartOf, referOf, pointOf, plotOf, applyOf};
+ghost use Rattle.tracker.specs.Tracker.{referredOf, countedIn, Samples};
 
 // ---- tests
 
@@ -155,4 +157,139 @@ pub fn restart(k: Record, locations: &[u64], counts: &mut [u64], thresholds: &mu
         return Started::Refused(Refusal::Tables);
     }
     Started::Ready(begin(s, counts, thresholds))
+}
+
+// ---- one reference
+
+// A refusal, with the record as it was.
+fn refused(k: Record, why: Refusal) -> Referred
+    ensures { λ r. ⌜ r ≡ referredOf k (Answer.Refused why) ⌝ }
+{
+    Referred {
+        kept: k,
+        answer: Answer::Refused(why),
+    }
+}
+
+// The record after a reference that was answered so, with this threshold and so many live.
+fn counted_in(k: Record, threshold: u64, live: u64, sampled: u64) -> Record
+    requires { ⌜ (k .numbers .references < 4294967295) × (k .numbers .sampled ≤ k .numbers .references) × (sampled ≤ 1) ⌝ }
+    ensures { λ r. ⌜ r ≡ countedIn k threshold live sampled ⌝ }
+{
+    let s = k.settings;
+    Record {
+        settings: s,
+        threshold,
+        live,
+        numbers: Numbers {
+            references: k.numbers.references + 1,
+            sampled: k.numbers.sampled + sampled,
+        },
+    }
+}
+
+// The bucket of a place in the live list: that of its scaled distance, or far.
+fn bucket_of(place: usize, threshold: u64, width: u64, buckets: u64) -> usize
+    requires { ⌜ (place < 8192) × (0 < threshold) × (0 < width) × (buckets ≤ 10000) ⌝ }
+    ensures { λ r. ⌜ r ≡ widths width buckets .bucketOf (scaledDistance threshold place) ⌝ }
+{
+    let bucket = (place as u64) * 0x100_0000 / threshold / width;
+    if buckets <= bucket {
+        return buckets as usize;
+    }
+    bucket as usize
+}
+
+// A sampled reference to a location that stands at a place of the live list.
+fn again_at(
+    k: Record,
+    location: u64,
+    place: usize,
+    locations: &mut [u64],
+    counts: &mut [u64],
+    thresholds: &mut [u32],
+) -> Referred
+    requires { ⌜ Samples location (held k (now locations) (now counts) (now thresholds)) × (firstPlace location (liveOf (held k (now locations) (now counts) (now thresholds))) ≡ some place) ⌝ }
+    ensures { λ r. ⌜ afterReferred r (now (locations .exit)) (now (counts .exit)) (now (thresholds .exit)) ≡ referOf location (held k (now (locations .entry)) (now (counts .entry)) (now (thresholds .entry))) ⌝ }
+{
+    let s = k.settings;
+    let threshold = k.threshold;
+    let bucket = bucket_of(place, threshold, s.width, s.buckets);
+    let references = k.numbers.references as u32;
+    if buckets::record_in(counts, thresholds, bucket, threshold, references) {
+        live::to_front(locations, place, location);
+        Referred {
+            kept: counted_in(k, threshold, k.live, 1),
+            answer: Answer::Again(place as u64),
+        }
+    } else {
+        refused(k, Refusal::Torn)
+    }
+}
+
+// A sampled reference to a location that is not in the live list.
+fn first_time(
+    k: Record,
+    location: u64,
+    locations: &mut [u64],
+    counts: &mut [u64],
+    thresholds: &mut [u32],
+) -> Referred
+    requires { ⌜ Samples location (held k (now locations) (now counts) (now thresholds)) × (firstPlace location (liveOf (held k (now locations) (now counts) (now thresholds))) ≡ none) ⌝ }
+    ensures { λ r. ⌜ afterReferred r (now (locations .exit)) (now (counts .exit)) (now (thresholds .exit)) ≡ referOf location (held k (now (locations .entry)) (now (counts .entry)) (now (thresholds .entry))) ⌝ }
+{
+    let s = k.settings;
+    let threshold = k.threshold;
+    let live = k.live as usize;
+    let bucket = (s.buckets + 1) as usize;
+    let references = k.numbers.references as u32;
+    if buckets::record_in(counts, thresholds, bucket, threshold, references) {
+        if k.live < s.limit {
+            live::to_front(locations, live, location);
+            Referred {
+                kept: counted_in(k, threshold, k.live + 1, 1),
+                answer: Answer::First,
+            }
+        } else {
+            let lowered = live::lower(locations, live, s.hashing, threshold, location);
+            Referred {
+                kept: counted_in(k, lowered.threshold, lowered.live as u64, 1),
+                answer: Answer::First,
+            }
+        }
+    } else {
+        refused(k, Refusal::Torn)
+    }
+}
+
+// One reference.
+pub fn refer(
+    k: Record,
+    location: u64,
+    locations: &mut [u64],
+    counts: &mut [u64],
+    thresholds: &mut [u32],
+) -> Referred
+    ensures { λ r. ⌜ afterReferred r (now (locations .exit)) (now (counts .exit)) (now (thresholds .exit)) ≡ referOf location (held k (now (locations .entry)) (now (counts .entry)) (now (thresholds .entry))) ⌝ }
+{
+    if torn(k) {
+        return refused(k, Refusal::Torn);
+    }
+    let s = k.settings;
+    if too_short(s, locations, counts, thresholds) {
+        return refused(k, Refusal::Tables);
+    }
+    if k.numbers.references == 0xffff_ffff {
+        return refused(k, Refusal::Full);
+    }
+    if k.threshold <= hash::hash_of(s.hashing, location) {
+        return Referred {
+            kept: counted_in(k, k.threshold, k.live, 0),
+            answer: Answer::Skipped,
+        };
+    }
+    match live::first_place(locations, k.live as usize, location) {
+        Found::At(place) => again_at(k, location, place, locations, counts, thresholds),
+        Found::Nothing => first_time(k, location, locations, counts, thresholds),
+    }
 }

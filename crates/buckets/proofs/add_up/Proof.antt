@@ -6,7 +6,8 @@ use borrow.Author.Needs.{needs}
 use lib.ListN.{getD}
 use Rattle.rules.specs.Refusals.{bucketsOf}
 use Rattle.buckets.specs.Buckets.{SoFar}
-use Rattle.buckets.proofs.Laws.{Sound, sound, product-fits, rescaled-le, torn-here, torn-over, so-far-more}
+use Rattle.rules.proofs.Bounds.{Sound, sound, product-fits, sound-rescaled}
+use Rattle.buckets.proofs.Laws.{torn-here, torn-over, so-far-more}
 use Rattle.buckets.proofs.add_up.Statement.{statement}
 use Rattle.buckets.proofs.add_up.Tie as tie
 
@@ -60,7 +61,7 @@ div-sum : tie.Need-div-sum Inv-loop μ-loop
 div-sum c = omega (arith, known (c .before) .some)
 
 add-sum : tie.Need-add-sum Inv-loop μ-loop
-add-sum c = omega (arith, rescaled-le (known (c .before)), known (c .before) .counted, c .before .before .before .before .before .before .loop .inv .1 .raw-high, c .before .before .before .before .before .before .loop .inv .1 .sum-high, c .before .before .before .before .before .before .before .before .before .fits .references .fits)
+add-sum c = omega (arith, sound-rescaled (known (c .before)), known (c .before) .counted, c .before .before .before .before .before .before .loop .inv .1 .raw-high, c .before .before .before .before .before .before .loop .inv .1 .sum-high, c .before .before .before .before .before .before .before .before .before .fits .references .fits)
 
 add-i : tie.Need-add-i Inv-loop μ-loop
 add-i c = search needs

@@ -4,7 +4,7 @@ use native.Mathlib.Omega.{arith}
 use borrow.Author.Tests.{le-leb, lt-leb}
 use lib.ListN.{getD}
 use Rattle.buckets.specs.Buckets.{unrecordable, recordedOf}
-use Rattle.buckets.proofs.Laws.{Sound, sound, product-fits, rescaled-le}
+use Rattle.rules.proofs.Bounds.{Sound, sound, product-fits, sound-rescaled}
 use borrow.Author.Needs.{needs}
 use Rattle.buckets.proofs.record_in.Statement.{statement}
 use Rattle.buckets.proofs.record_in.Tie as tie
@@ -50,7 +50,7 @@ div-counts : tie.Need-div-counts
 div-counts c = omega (arith, known c .some)
 
 add-counts : tie.Need-add-counts
-add-counts c = omega (arith, rescaled-le (known c), known c .counted, c .before .before .before .before .before .before .before .before .fits .references .fits)
+add-counts c = omega (arith, sound-rescaled (known c), known c .counted, c .before .before .before .before .before .before .before .before .fits .references .fits)
 
 mul-counts-2 : tie.Need-mul-counts-2
 mul-counts-2 c = search needs

@@ -1,0 +1,29 @@
+-- What the entry points' own functions hand to each other. Assumes nothing.
+use Prim.Native.Nat.{ℕ, _+_}
+use mathlib.Core.Path.{_≡_}
+use mathlib.Core.Bool.{true, false}
+use Rattle.rules.specs.declared.Record.{Record}
+use Rattle.rules.specs.declared.Referred.{Referred}
+use Rattle.rules.specs.declared.Answer.{Answer}
+use Rattle.rules.specs.Settings.{tooShort, full}
+use Rattle.rules.specs.Reference.{under}
+use Rattle.rules.specs.Refusals.{Held, hashFor, tornRecord}
+
+abbrev pub referredOf : Record → Answer → Referred
+referredOf k a = record { kept = k; answer = a }
+
+-- one reference more, counted as sampled or not
+abbrev pub countedIn : Record → (threshold live sampled : ℕ) → Record
+countedIn k threshold live sampled = record {
+  settings = k .settings;
+  threshold = threshold;
+  live = live;
+  numbers = record { references = k .numbers .references + 1; sampled = k .numbers .sampled + sampled };
+}
+
+-- nothing refuses a reference to x but its bucket, and its hash is below the threshold
+pub record Samples (x : ℕ) (s : Held) : Type 0 where
+  pub record-whole : tornRecord (s .kept) ≡ false
+  pub tables-long : tooShort (s .kept .settings) (s .tables) ≡ false
+  pub room : full (s .kept .numbers) ≡ false
+  pub below : under (hashFor (s .kept .settings)) (s .kept .threshold) x ≡ true
