@@ -5,16 +5,18 @@ use mathlib.Core.Bool.{Bool, true, false, cond}
 use mathlib.Core.List.{List, [], _∷_}
 use native.Mathlib.Omega.{arith}
 use lib.ListN.{length, take, length-take}
-use lib.Dec.{ltb}
+use lib.Dec.{ltb, eqb}
 use borrow.Author.Tests.{ltb-true, ltb-false, eqb-false}
 use Rattle.rules.specs.declared.Settings.{Settings}
 use Rattle.rules.specs.declared.Numbers.{Numbers}
 use Rattle.rules.specs.declared.Record.{Record}
+use Rattle.rules.specs.declared.Shape.{Shape}
 use Rattle.rules.specs.Lists.{has, over}
-use Rattle.rules.specs.Settings.{withDefaults, outOfRange, Histogram, Tables, needed, tooShort, mostReferences, full}
+use Rattle.rules.specs.Settings.{withDefaults, outOfRange, Histogram, Tables, needed, bucketsTooShort, tooShort, mostReferences, full}
 use Rattle.rules.specs.Reference.{Sample, Profile, under, largest, lowered, keepBelow, settled, recordIn, Reply, skipped, first, again, Stepped, step}
+use Rattle.rules.specs.Curve.{totalOf, curvePoint}
 use Rattle.rules.specs.Answers.{Said, refused, gives}
-use Rattle.rules.specs.Refusals.{Held, liveOf, sampleOf, hashFor, profileOf, counted, laid, freshTables, freshRecord, fresh, tornRecord, tornFor, Outcome, refusing, Beginning, setupOf, restartOf, stepOf, referOf}
+use Rattle.rules.specs.Refusals.{Held, liveOf, sampleOf, hashFor, profileOf, counted, laid, freshTables, freshRecord, fresh, tornRecord, tornReport, tornFor, Outcome, refusing, Beginning, setupOf, restartOf, stepOf, referOf, stale, pointOf}
 use Rattle.rules.proofs.Tests.{cases}
 use Rattle.rules.proofs.Lists.{length-erase}
 use Rattle.rules.proofs.Tables.{over-front, over-length}
@@ -130,6 +132,42 @@ module _ (x : ℕ) (s : Held) where
 
   pub refer-accepted : (r : Reply) → referOf x s .said ≡ gives r → Accepted x s
   refer-accepted r a = refer-either (λ w. w) (λ n e. absurd (not-both (ap (λ o. o .said) e) a))
+
+-- ---- a point
+
+module _ (k : Record) (believed : Shape) (n : ℕ) (g : Histogram) where
+  pub point-torn : tornRecord k ≡ true → pointOf k believed n g ≡ refused 3
+  unfolding pointOf
+  point-torn e = rw e
+
+  module _ (e : tornRecord k ≡ false) where
+    pub point-short : bucketsTooShort (k .settings) g ≡ true → pointOf k believed n g ≡ refused 2
+    unfolding pointOf
+    point-short f = rw (e, f)
+
+    module _ (f : bucketsTooShort (k .settings) g ≡ false) where
+      pub point-stale : stale believed (k .settings) ≡ true → pointOf k believed n g ≡ refused 5
+      unfolding pointOf
+      point-stale h = rw (e, f, h)
+
+      module _ (h : stale believed (k .settings) ≡ false) where
+        pub point-number : ltb (k .settings .buckets) n ≡ true → pointOf k believed n g ≡ refused 6
+        unfolding pointOf
+        point-number l = rw (e, f, h, l)
+
+        module _ (l : ltb (k .settings .buckets) n ≡ false) where
+          pub point-buckets : tornReport (k .numbers .references) (k .threshold) (k .settings .buckets) g ≡ true → pointOf k believed n g ≡ refused 3
+          unfolding pointOf
+          point-buckets r = rw (e, f, h, l, r)
+
+          module _ (r : tornReport (k .numbers .references) (k .threshold) (k .settings .buckets) g ≡ false) where
+            pub point-empty : eqb (totalOf (k .threshold) (k .settings .buckets) g) 0 ≡ true → pointOf k believed n g ≡ refused 9
+            unfolding pointOf
+            point-empty z = rw (e, f, h, l, r, z)
+
+            pub point-given : eqb (totalOf (k .threshold) (k .settings .buckets) g) 0 ≡ false → pointOf k believed n g ≡ gives (curvePoint (profileOf (k .settings)) (k .threshold) n g)
+            unfolding pointOf
+            point-given z = rw (e, f, h, l, r, z)
 
 -- ---- what an accepted reference leaves
 

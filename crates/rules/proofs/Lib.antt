@@ -16,3 +16,4 @@ pub mod Calls
 pub mod LittleEndian
 pub mod Events
 pub mod Round
+pub mod Report

@@ -5,13 +5,16 @@ use rules::Applied;
 use rules::Body;
 use rules::Event;
 use rules::Found;
+use rules::Hashing;
 use rules::Numbers;
 use rules::PlotPoint;
 use rules::Plotted;
+use rules::Point;
 use rules::Pointed;
 use rules::Record;
 use rules::Referred;
 use rules::Refusal;
+use rules::Reported;
 use rules::Settings;
 use rules::Shape;
 use rules::Started;
@@ -28,7 +31,7 @@ ghost use Rattle.rules.specs.Reference.{widths, firstPlace, scaledDistance};
 ghost use Rattle.rules.specs.Answers.{saidPointed, saidPlotted};
 ghost use Rattle.rules.specs.Events.{settingsOf};
 ghost use Rattle.rules.specs.Refusals.{tornRecord, freshBuckets, freshRecord, bucketsOf, tablesOf, held, liveOf, stale, afterStarted, afterReferred, afterApplied, setupOf, restartOf, referOf, pointOf, plotOf, applyOf};
-ghost use Rattle.tracker.specs.Tracker.{referredOf, countedIn, Samples};
+ghost use Rattle.tracker.specs.Tracker.{referredOf, countedIn, Samples, fromSums, startedOn, takenFrom};
 
 // ---- tests
 
@@ -291,5 +294,168 @@ pub fn refer(
     match live::first_place(locations, k.live as usize, location) {
         Found::At(place) => again_at(k, location, place, locations, counts, thresholds),
         Found::Nothing => first_time(k, location, locations, counts, thresholds),
+    }
+}
+
+// ---- points of the curve
+
+// Whether the believed shape is not the tracker's.
+fn is_stale(believed: Shape, s: Settings) -> bool
+    ensures { λ r. ⌜ r ≡ stale believed s ⌝ }
+{
+    (believed.buckets != s.buckets) | (believed.width != s.width)
+}
+
+// The point, from the report's sums.
+fn point_of(s: Settings, number: u64, sums: Sums) -> Pointed
+    requires { ⌜ (number ≤ 10000) × (s .width ≤ 4294967295) × (sums .hits ≤ sums .total) ⌝ }
+    ensures { λ r. ⌜ saidPointed r ≡ fromSums s number sums ⌝ }
+{
+    if sums.total == 0 {
+        return Pointed::Refused(Refusal::Empty);
+    }
+    Pointed::At(Point {
+        size: number * s.width,
+        hits: sums.hits,
+        misses: sums.total - sums.hits,
+        total: sums.total,
+    })
+}
+
+// A point of the curve, under the shape that the caller believes.
+pub fn point(k: Record, believed: Shape, number: u64, counts: &[u64], thresholds: &[u32]) -> Pointed
+    ensures { λ r. ⌜ saidPointed r ≡ pointOf k believed number (bucketsOf (now (counts .entry)) (now (thresholds .entry))) ⌝ }
+{
+    if torn(k) {
+        return Pointed::Refused(Refusal::Torn);
+    }
+    let s = k.settings;
+    if buckets_too_short(s, counts, thresholds) {
+        return Pointed::Refused(Refusal::Tables);
+    }
+    if is_stale(believed, s) {
+        return Pointed::Refused(Refusal::Stale);
+    }
+    if s.buckets < number {
+        return Pointed::Refused(Refusal::Point);
+    }
+    let needed = (s.buckets + 2) as usize;
+    let references = k.numbers.references as u32;
+    match buckets::report(
+        counts,
+        thresholds,
+        needed,
+        number as usize,
+        k.threshold,
+        references,
+    ) {
+        Reported::Sums(sums) => point_of(s, number, sums),
+        Reported::Torn => Pointed::Refused(Refusal::Torn),
+    }
+}
+
+// The same point as a pair of doubles: the size, and misses divided by total, rounded once.
+pub fn plot_point(
+    k: Record,
+    believed: Shape,
+    number: u64,
+    counts: &[u64],
+    thresholds: &[u32],
+) -> Plotted
+    ensures { λ r. ⌜ saidPlotted r ≡ plotOf k believed number (bucketsOf (now (counts .entry)) (now (thresholds .entry))) ⌝ }
+{
+    match point(k, believed, number, counts, thresholds) {
+        Pointed::At(p) => Plotted::At(PlotPoint {
+            size: p.size as f64,
+            ratio: (p.misses as f64) / (p.total as f64),
+        }),
+        Pointed::Refused(why) => Plotted::Refused(why),
+    }
+}
+
+// ---- trace events
+
+fn settings_of(body: Body) -> Settings
+    ensures { λ r. ⌜ r ≡ settingsOf body ⌝ }
+{
+    Settings {
+        limit: body.limit as u64,
+        start: body.start as u64,
+        width: body.width as u64,
+        buckets: body.buckets as u64,
+        hashing: Hashing {
+            kind: body.kind as u64,
+        },
+    }
+}
+
+// A start over a tracker that had the record k: a refused one keeps it.
+fn started_over(k: Record, started: Started) -> Applied
+    ensures { λ r. ⌜ r ≡ startedOn k started ⌝ }
+{
+    match started {
+        Started::Ready(record) => Applied {
+            kept: record,
+            answer: Taken::Whole,
+        },
+        Started::Refused(why) => Applied {
+            kept: k,
+            answer: Taken::Refused(why),
+        },
+    }
+}
+
+// What an event that stands for one reference answers.
+fn taken(referred: Referred) -> Applied
+    ensures { λ r. ⌜ r ≡ takenFrom referred ⌝ }
+{
+    let answer = referred.answer;
+    let kept = referred.kept;
+    match answer {
+        Answer::Refused(why) => Applied {
+            kept,
+            answer: Taken::Refused(why),
+        },
+        Answer::Skipped => Applied {
+            kept,
+            answer: Taken::Whole,
+        },
+        Answer::First => Applied {
+            kept,
+            answer: Taken::Whole,
+        },
+        Answer::Again(_) => Applied {
+            kept,
+            answer: Taken::Whole,
+        },
+    }
+}
+
+// One trace event.
+pub fn apply(
+    k: Record,
+    event: Event,
+    locations: &mut [u64],
+    counts: &mut [u64],
+    thresholds: &mut [u32],
+) -> Applied
+    ensures { λ r. ⌜ afterApplied r (now (locations .exit)) (now (counts .exit)) (now (thresholds .exit)) ≡ applyOf event (held k (now (locations .entry)) (now (counts .entry)) (now (thresholds .entry))) ⌝ }
+{
+    match event {
+        Event::Location(location) => taken(refer(k, location, locations, counts, thresholds)),
+        Event::Span { offset, length } => {
+            if length == 0 {
+                return Applied {
+                    kept: k,
+                    answer: Taken::Whole,
+                };
+            }
+            taken(refer(k, offset / 4096, locations, counts, thresholds))
+        }
+        Event::Restart => started_over(k, restart(k, locations, counts, thresholds)),
+        Event::Setup(body) => started_over(
+            k,
+            setup(settings_of(body), locations, counts, thresholds),
+        ),
     }
 }
