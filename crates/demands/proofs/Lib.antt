@@ -4,5 +4,6 @@ pub mod Alone
 pub mod Points
 pub mod Recency
 pub mod ReadBack
+pub mod Refusing
 pub mod Bench
 pub mod Witnesses

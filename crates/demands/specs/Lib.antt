@@ -1,3 +1,4 @@
 pub mod Runs
 pub mod Statements
+pub mod Refusing
 pub mod Bench
