@@ -1,17 +1,17 @@
 -- Demand 3: the live list is as if nothing else had been tracked. Assumes nothing.
-use Prim.Native.Nat.{ℕ, suc, _+_, _≤_, _<_}
+use Prim.Native.Nat.{ℕ, _≤_}
 use mathlib.Core.Path.{_≡_, refl, sym, ap, subst, _∙_}
-use mathlib.Core.Bool.{Bool, true, false}
+use mathlib.Core.Bool.{false}
 use mathlib.Core.List.{List, [], _∷_}
 use native.Mathlib.Omega.{arith}
-use lib.Dec.{ltb, eqb}
+use lib.Dec.{ltb}
 use lib.ListN.{length}
 use borrow.Author.Tests.{ltb-true, ltb-false, lt-ltb, ne-eqb}
 use Rattle.rules.specs.declared.Settings.{Settings}
 use Rattle.rules.specs.Lists.{keep}
 use Rattle.rules.specs.Settings.{Tables, outOfRange, tooShort, mostReferences}
 use Rattle.rules.specs.Reference.{under}
-use Rattle.rules.specs.Refusals.{Held, liveOf, hashFor, laid, fresh, freshRecord, stepOf, referOf}
+use Rattle.rules.specs.Refusals.{Held, hashFor, laid, fresh, freshRecord, stepOf}
 use Rattle.rules.specs.History.{recency, different, Largest}
 use Rattle.rules.proofs.Tests.{cases}
 use Rattle.rules.proofs.Lists.{keep-keep, keep-length, keep-narrow}
@@ -19,8 +19,8 @@ use Rattle.rules.proofs.History.{keep-recency}
 use Rattle.rules.proofs.Bounds.{whole}
 use Rattle.rules.proofs.Calls.{restart-accept, refer-accept}
 use Rattle.demands.specs.Runs.{Run, restart, refer}
-use Rattle.demands.specs.Statements.{inForce, Alone, NothingElse}
-use Rattle.demands.proofs.Invariant.{Invariant, invariant, invariant-fresh, accepted}
+use Rattle.demands.specs.Statements.{inForce, NothingElse}
+use Rattle.demands.proofs.Invariant.{invariant, invariant-fresh, accepted}
 use Rattle.demands.proofs.Tracking.{threshold, live-list}
 
 -- a run of any history, on any settings in range, with any tables long enough

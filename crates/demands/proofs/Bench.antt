@@ -1,24 +1,23 @@
 -- The bench table. Assumes nothing.
-use Prim.Native.Nat.{ℕ, zero, suc, _+_, _*_, _/_, _≤_, _<_}
+use Prim.Native.Nat.{ℕ, zero, suc, _+_, _/_, _≤_}
 use mathlib.Core.Path.{_≡_, refl, sym, ap, subst, _∙_}
-use mathlib.Core.Bool.{true, false, cond}
+use mathlib.Core.Bool.{false}
 use mathlib.Core.List.{List, [], _∷_}
 use native.Mathlib.Nat.{mul-zero, zero-div}
 use native.Mathlib.Omega.{arith}
-use lib.Dec.{eqb}
 use borrow.Author.Tests.{le-ltb, eq-eqb}
 use Rattle.rules.specs.declared.Settings.{Settings}
-use Rattle.rules.specs.Settings.{P, Histogram, Tables, withDefaults, outOfRange, tooShort, shiftStep, finaliser, hashOf}
+use Rattle.rules.specs.Settings.{Histogram, Tables, withDefaults, outOfRange, tooShort, hashOf}
 use Rattle.rules.specs.Reference.{Reply, skipped, firstFrom, largest, settled, sampled, step, rescaled, countAt, thresholdAt}
 use Rattle.rules.specs.Curve.{sumTo, rawTo}
-use Rattle.rules.specs.Answers.{Said, refused, gives}
+use Rattle.rules.specs.Answers.{refused, gives}
 use Rattle.rules.specs.Events.{readOf}
-use Rattle.rules.specs.Refusals.{Held, liveOf, sampleOf, hashFor, profileOf, laid, freshRecord, tornRecord, tornBucket, anyTorn, tornReport, setupOf, restartOf, stepOf, referOf, referAll, goingOn, pointOf}
+use Rattle.rules.specs.Refusals.{Held, sampleOf, hashFor, profileOf, freshRecord, tornRecord, tornBucket, anyTorn, tornReport, setupOf, stepOf, referOf, referAll, goingOn, pointOf}
 use Rattle.rules.proofs.Clean.{step-falls}
 use Rattle.rules.proofs.Hash.{hash-zero}
-use Rattle.rules.proofs.Calls.{Accepted, refer-accept, refer-accepted, refer-either, setup-accept, setup-range}
-use Rattle.demands.specs.Runs.{Run, setup, refer, ownShape}
-use Rattle.demands.specs.Bench.{kind0, zeros, begun, ran, pointAt, caseD, BenchTable}
+use Rattle.rules.proofs.Calls.{refer-accept, refer-either, setup-accept, setup-range}
+use Rattle.demands.specs.Runs.{Run, setup, refer}
+use Rattle.demands.specs.Bench.{kind0, zeros, pointAt, caseD, BenchTable}
 use Rattle.demands.proofs.Tracking.{whole-answers}
 use Rattle.demands.proofs.Points.{only-point-or-empty}
 

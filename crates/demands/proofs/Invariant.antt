@@ -1,26 +1,25 @@
 -- What every run leaves. Assumes nothing.
-use Prim.Native.Nat.{ℕ, suc, _+_, _*_, _≤_, _<_}
+use Prim.Native.Nat.{ℕ, suc, _+_, _<_}
 use mathlib.Core.Path.{_≡_, refl, sym, ap, subst, subst₂, _∙_}
-use mathlib.Core.Bool.{true, false, cond}
+use mathlib.Core.Bool.{false}
 use mathlib.Core.List.{List, [], _∷_}
-use mathlib.Core.Option.{Option}
 use native.Mathlib.Omega.{arith}
-use lib.ListN.{length, take, length-take}
+use lib.ListN.{length}
 use Rattle.rules.specs.declared.Settings.{Settings}
 use Rattle.rules.specs.declared.Record.{Record}
-use Rattle.rules.specs.Settings.{outOfRange, P, Tables, needed, tooShort, full}
-use Rattle.rules.specs.Reference.{Sample, under, firstPlace, countAt, thresholdAt, bucketFor, Reply, skipped, first, again, step}
+use Rattle.rules.specs.Settings.{outOfRange, Tables, needed, tooShort, full}
+use Rattle.rules.specs.Reference.{under, firstPlace, Reply, skipped, first, again}
 use Rattle.rules.specs.Answers.{gives}
-use Rattle.rules.specs.Refusals.{Held, liveOf, sampleOf, hashFor, profileOf, counted, laid, freshRecord, freshTables, fresh, tornRecord, tornAt, tornFor, Beginning, stepOf, referOf, setupOf, restartOf}
+use Rattle.rules.specs.Refusals.{Held, liveOf, sampleOf, hashFor, profileOf, counted, laid, freshRecord, freshTables, fresh, tornRecord, tornAt, tornFor, Beginning, stepOf}
 use Rattle.rules.proofs.Tests.{cases}
 use Rattle.rules.proofs.Tables.{over-front}
-use Rattle.rules.proofs.Bounds.{Whole, whole, untorn, InRange, in-range, AllLong, all-long, none-short, Sound, not-torn}
+use Rattle.rules.proofs.Bounds.{Whole, whole, untorn, InRange, in-range, all-long, none-short, not-torn}
 use Rattle.rules.proofs.Steps.{Tracked, tracked-fresh, tracked-step}
 use Rattle.rules.proofs.FullRate.{Cut, widths-cut}
 use Rattle.rules.proofs.Fresh.{fresh-long}
 use Rattle.rules.proofs.Clean.{Clean, clean-fresh, clean-step, bucket-needed}
 use Rattle.rules.proofs.Calls.{Begins, setup-begins, restart-begins, Accepted, refer-accept, refer-accepted, sample-laid, left-whole, left-long}
-use Rattle.demands.specs.Runs.{Run, setup, restart, refer, answers, sampledIn}
+use Rattle.demands.specs.Runs.{Run, setup, restart, refer, answers}
 
 pub record Invariant (past : List ℕ) (s : Held) : Type 0 where
   pub record-whole : tornRecord (s .kept) ≡ false

@@ -1,18 +1,16 @@
 -- Points of a run: what is refused, and demand 2 at full rate. Assumes nothing.
-use Prim.Native.Nat.{ℕ, zero, suc, _+_, _-_, _*_, _≤_, _<_}
-use mathlib.Core.Path.{_≡_, refl, sym, ap, ap₂, subst, _∙_}
-use mathlib.Core.Bool.{true, false, cond, not, _||_}
+use Prim.Native.Nat.{ℕ, zero, suc, _-_, _*_, _≤_}
+use mathlib.Core.Path.{_≡_, refl, ap, subst, _∙_}
+use mathlib.Core.Bool.{false, not}
 use mathlib.Core.List.{List, [], _∷_}
 use native.Mathlib.Omega.{arith}
-use lib.Dec.{ltb, eqb}
+use lib.Dec.{eqb}
 use lib.ListN.{length}
 use borrow.Author.Tests.{eq-eqb, ne-eqb, le-ltb}
-use Rattle.rules.specs.declared.Settings.{Settings}
 use Rattle.rules.specs.Settings.{P, Histogram, needed, bucketsTooShort}
-use Rattle.rules.specs.Reference.{countAt, thresholdAt}
-use Rattle.rules.specs.Curve.{sumTo, rawTo, totalOf, curvePoint}
-use Rattle.rules.specs.Answers.{Said, refused, gives}
-use Rattle.rules.specs.Refusals.{Held, sampleOf, hashFor, profileOf, laid, tornAt, anyTorn, tornReport, stale, stepOf, pointOf}
+use Rattle.rules.specs.Curve.{sumTo, totalOf}
+use Rattle.rules.specs.Answers.{gives}
+use Rattle.rules.specs.Refusals.{Held, sampleOf, hashFor, profileOf, anyTorn, tornReport, pointOf}
 use Rattle.rules.specs.History.{recency, Largest}
 use Rattle.rules.specs.Cache.{hits}
 use Rattle.rules.proofs.Tests.{or-neither}
@@ -24,9 +22,9 @@ use Rattle.rules.proofs.Clean.{Clean}
 use Rattle.rules.proofs.Steps.{Tracked}
 use Rattle.rules.proofs.FullRate.{Exact, exact-report, exact-step, threshold-stays}
 use Rattle.rules.proofs.Fresh.{exact-fresh}
-use Rattle.demands.specs.Runs.{Run, ownShape}
-use Rattle.demands.specs.Statements.{Exactly, FullRate, OnlyPointOrEmpty}
-use Rattle.demands.proofs.Invariant.{Invariant, invariant, by-run, cut, Fresh}
+use Rattle.demands.specs.Runs.{Run}
+use Rattle.demands.specs.Statements.{FullRate, OnlyPointOrEmpty}
+use Rattle.demands.proofs.Invariant.{invariant, by-run, cut}
 
 -- clean buckets are not torn at a report
 none-torn : (n start references t : ℕ) (g : Histogram) → start ≤ P → Clean n start references t g → (m : ℕ) → m ≤ n → anyTorn references t m g ≡ false

@@ -1,11 +1,7 @@
 -- Demand 2: trace events written are read back the same. Assumes nothing.
-use Prim.Native.Nat.{ℕ}
-use mathlib.Core.Path.{_≡_, sym, ap, _∙_}
-use mathlib.Core.List.{List}
-use lib.ListN.{length, drop}
-use Rattle.rules.specs.declared.Event.{Event}
+use mathlib.Core.Path.{_≡_, sym}
+use lib.ListN.{drop}
 use Rattle.rules.specs.declared.Written.the-variants as written
-use Rattle.rules.specs.Answers.{gives}
 use Rattle.rules.specs.Events.{eventLength, writeOf, afterWritten}
 use Rattle.rules.proofs.Events.{write-filled}
 use Rattle.rules.proofs.Round.{round}

@@ -1,13 +1,12 @@
 -- The recency list holds exactly the referenced locations, each once, ordered by last reference. Assumes nothing.
-use Prim.Native.Nat.{ℕ, suc, _<_}
-use mathlib.Core.Path.{_≡_, refl, sym, ap, subst, _∙_}
-use mathlib.Core.Bool.{Bool, true, false, not}
+use Prim.Native.Nat.{ℕ, suc}
+use mathlib.Core.Path.{_≡_, refl, sym, subst, _∙_}
+use mathlib.Core.Bool.{true, false, not}
 use mathlib.Core.List.{List, [], _∷_}
 use native.Mathlib.Omega.{arith}
 use lib.Dec.{eqb}
-use lib.ListN.{length}
 use borrow.Author.Tests.{eqb-true, eqb-false, eq-eqb, ne-eqb}
-use Rattle.rules.specs.Lists.{keep, has, upto, without}
+use Rattle.rules.specs.Lists.{has, without}
 use Rattle.rules.specs.History.{recency}
 use Rattle.rules.proofs.Tests.{cases, clash}
 use Rattle.rules.proofs.Lists.{has-without, has-keep, differ}

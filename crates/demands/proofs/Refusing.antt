@@ -1,13 +1,13 @@
 -- Demand 1. Assumes nothing.
-use Prim.Native.Nat.{ℕ, _+_, _-_, _≤_, _<_}
+use Prim.Native.Nat.{ℕ, _+_, _-_}
 use mathlib.Core.Path.{_≡_, refl, sym, ap, subst₂, _∙_}
 use mathlib.Core.Bool.{Bool, true, false, cond, not, _||_}
 use mathlib.Core.List.{List, [], _∷_, _++_}
-use mathlib.Core.Option.{Option, some, none}
+use mathlib.Core.Option.{some, none}
 use native.Mathlib.Omega.{arith}
 use lib.Dec.{eqb, ltb}
-use lib.ListN.{length, getD, take, length-append, length-drop}
-use borrow.Author.Tests.{eqb-true, eqb-false, ltb-true, ltb-false, eq-eqb, ne-eqb, lt-ltb, le-ltb, le-leb, lt-leb}
+use lib.ListN.{length, getD, length-append, length-drop}
+use borrow.Author.Tests.{eqb-true, eqb-false, ltb-true, ltb-false, lt-ltb, le-leb, lt-leb}
 use Rattle.rules.specs.declared.Settings.{Settings}
 use Rattle.rules.specs.declared.Record.{Record}
 use Rattle.rules.specs.declared.Shape.{Shape}
@@ -18,8 +18,8 @@ use Rattle.rules.specs.Settings.{Histogram, Tables, withDefaults, outOfRange, b
 use Rattle.rules.specs.Reference.{Reply, under, firstPlace, bucketFor, step}
 use Rattle.rules.specs.Curve.{plotPoint, totalOf}
 use Rattle.rules.specs.Answers.{Said, refused, gives}
-use Rattle.rules.specs.Events.{settingsOf, referencesOf, eventLength, numberAt, bodyOf, whole, readOf, writeOf}
-use Rattle.rules.specs.Refusals.{Held, Beginning, liveOf, sampleOf, hashFor, profileOf, laid, counted, freshBuckets, freshRecord, tornRecord, tornAt, tornReport, tornFor, stale, setupOf, restartOf, stepOf, referOf, pointOf, onGives, plotOf, startedOver, goingOn, referAll, applyOf}
+use Rattle.rules.specs.Events.{settingsOf, eventLength, numberAt, bodyOf, whole, readOf, writeOf}
+use Rattle.rules.specs.Refusals.{Held, Beginning, hashFor, profileOf, laid, counted, freshBuckets, freshRecord, tornRecord, tornAt, tornReport, tornFor, stale, setupOf, restartOf, stepOf, referOf, pointOf, onGives, startedOver, goingOn, referAll, applyOf}
 use Rattle.rules.proofs.Tests.{cases, or-left, or-right}
 use Rattle.rules.proofs.Events.{write-short, write-fits}
 use Rattle.rules.proofs.Calls.{not-both, setup-either, restart-either, refer-either, refer-accept, refer-accepted, sample-laid, point-stale}

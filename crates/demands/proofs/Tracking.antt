@@ -1,24 +1,22 @@
 -- Demand 3 over whole runs, but for "as if nothing else had been tracked". Assumes nothing.
-use Prim.Native.Nat.{ℕ, suc, _+_, _≤_}
-use mathlib.Core.Path.{_≡_, refl, sym, ap, ap₂, subst, _∙_}
-use mathlib.Core.Bool.{true, false, cond}
-use mathlib.Core.List.{List, [], _∷_}
+use Prim.Native.Nat.{ℕ}
+use mathlib.Core.Path.{_≡_, sym, ap, subst, _∙_}
+use mathlib.Core.List.{List, _∷_}
 use native.Mathlib.Omega.{arith}
 use lib.Dec.{eqb}
 use lib.ListN.{length}
-use borrow.Author.Tests.{eqb-false, eq-eqb, ne-eqb}
 use Rattle.rules.specs.declared.Settings.{Settings}
-use Rattle.rules.specs.Settings.{mostReferences, full, outOfRange, withDefaults, tooShort}
-use Rattle.rules.specs.Reference.{Reply, skipped, first, again, under}
+use Rattle.rules.specs.Settings.{mostReferences}
+use Rattle.rules.specs.Reference.{Reply, skipped, first, again}
 use Rattle.rules.specs.Lists.{has}
-use Rattle.rules.specs.Answers.{Said, refused, gives}
-use Rattle.rules.specs.Refusals.{Held, liveOf, sampleOf, hashFor, profileOf, counted, laid, tornRecord, stepOf, referOf, setupOf, restartOf}
+use Rattle.rules.specs.Answers.{gives}
+use Rattle.rules.specs.Refusals.{Held, sampleOf, hashFor, profileOf, counted, stepOf, referOf}
 use Rattle.rules.proofs.Tests.{cases}
 use Rattle.rules.proofs.Steps.{replied-skipped, replied-first, replied-again}
-use Rattle.rules.proofs.Calls.{not-both, Accepted, refer-accept, refer-accepted, refer-either, refer-full, setup-either, restart-either}
-use Rattle.demands.specs.Runs.{Run, setup, restart, refer, answers, sampledIn}
-use Rattle.demands.specs.Statements.{inForce, Threshold, LiveList, historyReply, Answers, Numbered, Numbers, OnlyFull, Bounded, Bounds, Unmoved, RefusedAnywhere}
-use Rattle.demands.proofs.Invariant.{gives-same, by-run, Invariant, invariant, accepted}
+use Rattle.rules.proofs.Calls.{not-both, refer-accept, refer-accepted, refer-either, refer-full, setup-either, restart-either}
+use Rattle.demands.specs.Runs.{Run, answers, sampledIn}
+use Rattle.demands.specs.Statements.{inForce, Threshold, LiveList, historyReply, Answers, Numbers, OnlyFull, Bounds, RefusedAnywhere}
+use Rattle.demands.proofs.Invariant.{gives-same, by-run, invariant, accepted}
 
 pub threshold : Threshold
 threshold past s run = invariant run .tracked .threshold-is

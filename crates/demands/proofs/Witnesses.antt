@@ -1,12 +1,10 @@
 -- The demands are about something: runs that meet their premises. Assumes nothing.
-use Prim.Native.Nat.{ℕ, _≤_, _<_}
+use Prim.Native.Nat.{ℕ, _≤_}
 use mathlib.Core.Path.{_≡_, refl}
 use mathlib.Core.List.{List, [], _∷_}
-use native.Mathlib.Omega.{arith}
 use lib.Dec.{lit≤}
 use lib.ListN.{length}
-use Rattle.rules.specs.declared.Settings.{Settings}
-use Rattle.rules.specs.Settings.{P, Tables, withDefaults, outOfRange, hashOf}
+use Rattle.rules.specs.Settings.{P, withDefaults, outOfRange, hashOf}
 use Rattle.rules.specs.Reference.{firstFrom, largest, settled, sampled, step, countAt}
 use Rattle.rules.specs.Refusals.{Held, liveOf, freshRecord, fresh, tornRecord, tornBucket, setupOf, restartOf, referOf}
 use Rattle.rules.specs.History.{recency}

@@ -1,18 +1,18 @@
 -- Demands 2 and 3 over whole runs, in their own words. The proofs stand in proofs/. Assumes nothing.
-use Prim.Native.Nat.{ℕ, _+_, _-_, _*_, _≤_, _<_}
+use Prim.Native.Nat.{ℕ, _-_, _*_, _≤_, _<_}
 use mathlib.Core.Path.{_≡_}
-use mathlib.Core.Bool.{Bool, true, false, cond}
+use mathlib.Core.Bool.{Bool, true, cond}
 use mathlib.Core.List.{List, [], _∷_, _++_}
 use lib.Dec.{ltb, eqb}
 use lib.ListN.{length}
 use Rattle.rules.specs.declared.Settings.{Settings}
 use Rattle.rules.specs.declared.Event.{Event}
 use Rattle.rules.specs.Lists.{keep, has, upto}
-use Rattle.rules.specs.Settings.{P, needed, mostReferences, full}
+use Rattle.rules.specs.Settings.{P, needed, mostReferences}
 use Rattle.rules.specs.Reference.{Reply, skipped, first, again, countAt, thresholdAt}
 use Rattle.rules.specs.Curve.{rawTo, totalOf, curvePoint}
-use Rattle.rules.specs.Answers.{Said, refused, gives}
-use Rattle.rules.specs.Events.{eventBytes, eventLength, Fits, readOf, unreadOf, writeOf}
+use Rattle.rules.specs.Answers.{refused, gives}
+use Rattle.rules.specs.Events.{eventBytes, eventLength, Fits, readOf, writeOf}
 use Rattle.rules.specs.Refusals.{Held, liveOf, hashFor, profileOf, setupOf, restartOf, referOf, pointOf}
 use Rattle.rules.specs.History.{recency, distance, Largest}
 use Rattle.rules.specs.Cache.{hits}

@@ -4,9 +4,7 @@ use mathlib.Core.Path.{_≡_, refl, sym, ap, _∙_}
 use mathlib.Core.Bool.{cond}
 use mathlib.Core.Option.{Option, some, none}
 use lib.Dec.{eqb}
-use Rattle.rules.specs.declared.Record.{Record}
 use Rattle.rules.specs.declared.Point.{Point}
-use Rattle.rules.specs.declared.PlotPoint.{PlotPoint}
 use Rattle.rules.specs.declared.Sums.{Sums}
 use Rattle.rules.specs.declared.Refusal.{Refusal}
 use Rattle.rules.specs.declared.Refusal.the-variants as refusal

@@ -1,18 +1,17 @@
 -- What is known once a test on the record, the tables or a bucket was passed. Assumes nothing.
-use Prim.Native.Nat.{ℕ, _+_, _*_, _^_, _≤_, _<_}
-use mathlib.Core.Path.{_≡_, refl, sym, ap, _∙_}
-use mathlib.Core.Bool.{true, false, _||_}
+use Prim.Native.Nat.{ℕ, _*_, _^_, _≤_, _<_}
+use mathlib.Core.Path.{_≡_}
+use mathlib.Core.Bool.{false}
 use native.Mathlib.Nat.{mul-le-mul-left, le-trans}
 use native.Mathlib.Omega.{arith}
 use lib.ListN.{length}
-use lib.Dec.{eqb, ltb}
 use borrow.Author.Tests.{eqb-false, ltb-false, ne-eqb, le-ltb}
 use Rattle.rules.specs.declared.Settings.{Settings}
 use Rattle.rules.specs.declared.Record.{Record}
-use Rattle.rules.specs.Settings.{P, outOfRange, Histogram, Tables, needed, bucketsTooShort, tooShort, mostReferences}
+use Rattle.rules.specs.Settings.{P, outOfRange, Histogram, Tables, needed, bucketsTooShort, tooShort}
 use Rattle.rules.specs.Reference.{rescaled}
 use Rattle.rules.specs.Refusals.{tornRecord, tornBucket}
-use Rattle.rules.proofs.Tests.{neither, or-neither}
+use Rattle.rules.proofs.Tests.{neither}
 use Rattle.rules.proofs.Buckets.{Long, rescaled-le}
 
 -- settings in their ranges

@@ -1,16 +1,16 @@
 -- Recording in one bucket: what the sums of a histogram become, and which buckets stay. Assumes nothing.
-use Prim.Native.Nat.{ℕ, zero, suc, _+_, _*_, _≤_, _<_}
-use mathlib.Core.Path.{_≡_, refl, sym, ap, ap₂, _∙_}
+use Prim.Native.Nat.{ℕ, zero, suc, _+_, _≤_, _<_}
+use mathlib.Core.Path.{_≡_, refl, ap₂}
 use mathlib.Core.Logic.{_≢_}
 use native.Mathlib.Nat.{div-le-of-le-mul, mul-le-mul-left, mul-comm, le-trans, le-of-eq}
 use native.Mathlib.Omega.{arith}
 use lib.ListN.{length, length-set}
 use lib.Seq.{getD-set-same, getD-set-other}
-use lib.Dec.{eqb, ltb}
+use lib.Dec.{eqb}
 use borrow.Author.Tests.{eqb-true, eqb-false}
-use Rattle.rules.specs.Settings.{Histogram, needed}
+use Rattle.rules.specs.Settings.{Histogram}
 use Rattle.rules.specs.Reference.{rescaled, countAt, thresholdAt, recordIn}
-use Rattle.rules.specs.Curve.{sumTo, rawTo}
+use Rattle.rules.specs.Curve.{rawTo}
 use Rattle.rules.proofs.Tests.{cases}
 
 pub rescaled-le : (t c b : ℕ) → t ≤ b → rescaled t c b ≤ c

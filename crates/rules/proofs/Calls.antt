@@ -1,27 +1,27 @@
 -- The calls, case by case: what each answers and leaves where a test holds, and what an accepted one leaves. Assumes nothing.
-use Prim.Native.Nat.{ℕ, suc, _+_, _≤_, _<_, min}
-use mathlib.Core.Path.{_≡_, refl, sym, ap, subst, _∙_}
-use mathlib.Core.Bool.{Bool, true, false, cond}
-use mathlib.Core.List.{List, [], _∷_}
+use Prim.Native.Nat.{ℕ, _+_, _≤_}
+use mathlib.Core.Path.{_≡_, refl, ap}
+use mathlib.Core.Bool.{true, false}
+use mathlib.Core.List.{List, _∷_}
 use native.Mathlib.Omega.{arith}
-use lib.ListN.{length, take, length-take}
+use lib.ListN.{length, length-take}
 use lib.Dec.{ltb, eqb}
 use borrow.Author.Tests.{ltb-true, ltb-false, eqb-false}
 use Rattle.rules.specs.declared.Settings.{Settings}
 use Rattle.rules.specs.declared.Numbers.{Numbers}
 use Rattle.rules.specs.declared.Record.{Record}
 use Rattle.rules.specs.declared.Shape.{Shape}
-use Rattle.rules.specs.Lists.{has, over}
+use Rattle.rules.specs.Lists.{has}
 use Rattle.rules.specs.Settings.{withDefaults, outOfRange, Histogram, Tables, needed, bucketsTooShort, tooShort, mostReferences, full}
-use Rattle.rules.specs.Reference.{Sample, Profile, under, largest, lowered, keepBelow, settled, recordIn, Reply, skipped, first, again, Stepped, step}
+use Rattle.rules.specs.Reference.{Sample, Profile, under, lowered, settled, Reply, skipped, first, again, Stepped, step}
 use Rattle.rules.specs.Curve.{totalOf, curvePoint}
 use Rattle.rules.specs.Answers.{Said, refused, gives}
-use Rattle.rules.specs.Refusals.{Held, liveOf, sampleOf, hashFor, profileOf, counted, laid, freshTables, freshRecord, fresh, tornRecord, tornReport, tornFor, Outcome, refusing, Beginning, setupOf, restartOf, stepOf, referOf, stale, pointOf}
+use Rattle.rules.specs.Refusals.{Held, sampleOf, hashFor, profileOf, counted, laid, freshTables, freshRecord, tornRecord, tornReport, tornFor, refusing, Beginning, setupOf, restartOf, stepOf, referOf, stale, pointOf}
 use Rattle.rules.proofs.Tests.{cases}
 use Rattle.rules.proofs.Lists.{length-erase}
 use Rattle.rules.proofs.Tables.{over-front, over-length}
 use Rattle.rules.proofs.Buckets.{Long, long-record}
-use Rattle.rules.proofs.Bounds.{InRange, in-range, Whole, whole, untorn, AllLong, all-long, none-short}
+use Rattle.rules.proofs.Bounds.{Whole, whole, untorn, AllLong, all-long, none-short}
 use Rattle.rules.proofs.Steps.{step-skipped, step-again, step-first, settled-histogram, largest-leaves}
 use Rattle.rules.proofs.Clean.{step-falls}
 

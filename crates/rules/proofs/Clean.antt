@@ -1,8 +1,7 @@
 -- In a run from a fresh start no bucket is torn: one reference keeps every bucket's threshold and count within bounds. Assumes nothing.
-use Prim.Native.Nat.{ℕ, suc, _+_, _*_, _≤_, _<_, _^_, min}
-use mathlib.Core.Path.{_≡_, refl, ap, _∙_}
-use mathlib.Core.Bool.{true, false}
-use mathlib.Core.List.{List, [], _∷_}
+use Prim.Native.Nat.{ℕ, _+_, _*_, _≤_, _<_}
+use mathlib.Core.Path.{_≡_}
+use mathlib.Core.List.{List, _∷_}
 use mathlib.Core.Option.{Option, some, none}
 use native.Mathlib.Omega.{arith}
 use lib.ListN.{length}
@@ -10,14 +9,13 @@ use lib.Dec.{eqb, ltb}
 use borrow.Author.Tests.{ltb-true, eqb-true, eqb-false}
 use Rattle.rules.specs.declared.Settings.{Settings}
 use Rattle.rules.specs.Lists.{has, upto}
-use Rattle.rules.specs.Settings.{P, Histogram, Tables, needed}
-use Rattle.rules.specs.Reference.{Sample, Profile, under, largest, lowered, scaledDistance, rescaled, countAt, thresholdAt, recordIn, bucketFor, settled, step}
+use Rattle.rules.specs.Settings.{Histogram, Tables, needed}
+use Rattle.rules.specs.Reference.{Sample, Profile, under, scaledDistance, rescaled, countAt, thresholdAt, recordIn, bucketFor, settled, step}
 use Rattle.rules.specs.Curve.{rawTo}
 use Rattle.rules.specs.Refusals.{freshTables}
 use Rattle.rules.proofs.Tests.{cases}
 use Rattle.rules.proofs.Buckets.{Long, long-record, rescaled-le, count-other, threshold-other, count-recorded, threshold-recorded, raw-recorded}
 use Rattle.rules.proofs.Steps.{step-skipped, step-again, step-first, settled-histogram}
-use Rattle.rules.proofs.FullRate.{Cut}
 use Rattle.rules.proofs.Fresh.{fresh-long, fresh-count, fresh-threshold, fresh-raw}
 
 -- the first n buckets, after so many references, under the threshold t

@@ -1,13 +1,13 @@
 -- What a fresh start leaves in the bucket tables. Assumes nothing.
-use Prim.Native.Nat.{ℕ, zero, suc, _+_, _*_, _≤_, _<_}
-use mathlib.Core.Path.{_≡_, refl, ap, ap₂, _∙_}
-use mathlib.Core.List.{List, []}
+use Prim.Native.Nat.{ℕ, zero, suc, _≤_, _<_}
+use mathlib.Core.Path.{_≡_, refl, _∙_}
+use mathlib.Core.List.{List}
 use native.Mathlib.Omega.{arith}
 use lib.ListN.{length, getD, replicate, length-replicate, getD-replicate, List·getD-append}
 use Rattle.rules.specs.declared.Settings.{Settings}
 use Rattle.rules.specs.Lists.{over}
 use Rattle.rules.specs.Settings.{P, Histogram, Tables, needed}
-use Rattle.rules.specs.Reference.{Profile, countAt, thresholdAt}
+use Rattle.rules.specs.Reference.{countAt, thresholdAt}
 use Rattle.rules.specs.Curve.{rawTo}
 use Rattle.rules.specs.Refusals.{freshTables, profileOf}
 use Rattle.rules.proofs.Tables.{over-length}

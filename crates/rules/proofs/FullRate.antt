@@ -1,10 +1,9 @@
 -- Demand 2 at full rate over one reference: the histogram stays the least-recently-used caches', for any profile whose buckets are cut where its point sizes say. Assumes nothing.
-use Prim.Native.Nat.{ℕ, zero, suc, _+_, _*_, _/_, _≤_, _<_, _^_}
-use mathlib.Core.Path.{_≡_, refl, sym, ap, ap₂, subst, _∙_}
-use mathlib.Core.Logic.{_≢_}
-use mathlib.Core.Bool.{Bool, true, false, cond}
-use mathlib.Core.List.{List, [], _∷_}
-use mathlib.Core.Option.{Option, some, none}
+use Prim.Native.Nat.{ℕ, zero, suc, _+_, _*_, _/_, _≤_, _<_}
+use mathlib.Core.Path.{_≡_, refl, sym, ap, ap₂, _∙_}
+use mathlib.Core.Bool.{Bool, true}
+use mathlib.Core.List.{List, _∷_}
+use mathlib.Core.Option.{some}
 use native.Mathlib.Nat.{mul-div-cancel, div-lt-iff-lt-mul}
 use native.Mathlib.Omega.{arith}
 use lib.ListN.{length}
@@ -14,10 +13,10 @@ use Rattle.rules.specs.Lists.{keep, has, upto}
 use Rattle.rules.specs.Settings.{P, Histogram, needed}
 use Rattle.rules.specs.Reference.{Sample, Profile, widths, under, scaledDistance, rescaled, countAt, thresholdAt, recordIn, bucketFor, step}
 use Rattle.rules.specs.Curve.{sumTo, rawTo}
-use Rattle.rules.specs.History.{recency, different, distance, Largest}
+use Rattle.rules.specs.History.{recency, different, Largest}
 use Rattle.rules.specs.Cache.{cached, oneIf, hits}
 use Rattle.rules.proofs.Tests.{cases}
-use Rattle.rules.proofs.Lists.{keep-all, has-keep, upto-keep}
+use Rattle.rules.proofs.Lists.{keep-all}
 use Rattle.rules.proofs.History.{has-recency, upto-recency}
 use Rattle.rules.proofs.Cache.{hit-is}
 use Rattle.rules.proofs.Buckets.{Long, long-record, raw-before, raw-recorded, threshold-other, threshold-recorded}

@@ -1,13 +1,12 @@
 -- Laws of a history's recency list. Assumes nothing.
-use Prim.Native.Nat.{ℕ, suc, _≤_, _<_}
+use Prim.Native.Nat.{ℕ, _≤_}
 use mathlib.Core.Path.{_≡_, refl, ap, _∙_}
 use mathlib.Core.Bool.{Bool, true, false, not}
 use mathlib.Core.List.{List, [], _∷_}
 use native.Mathlib.Omega.{arith}
-use lib.ListN.{length}
 use lib.Dec.{eqb}
 use Rattle.rules.specs.Lists.{keep, has, upto, without}
-use Rattle.rules.specs.History.{recency, different, distance}
+use Rattle.rules.specs.History.{recency, different}
 use Rattle.rules.proofs.Tests.{cases}
 use Rattle.rules.proofs.Lists.{keep-keep, keep-without-out, has-keep, has-without, upto-keep, Once, once-keep, length-without, differ}
 

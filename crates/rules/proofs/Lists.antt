@@ -1,14 +1,14 @@
 -- Laws of the list functions. Assumes nothing.
-use Prim.Native.Nat.{ℕ, suc, _+_, _≤_, _<_}
-use mathlib.Core.Path.{_≡_, refl, sym, ap, subst, _∙_}
+use Prim.Native.Nat.{ℕ, suc, _≤_}
+use mathlib.Core.Path.{_≡_, refl, sym, ap, subst}
 use mathlib.Core.Bool.{Bool, true, false, not, cond}
 use mathlib.Core.List.{List, [], _∷_, _++_}
 use native.Mathlib.Omega.{arith}
 use lib.ListN.{length}
 use lib.Dec.{eqb}
-use borrow.Author.Tests.{eqb-true, eqb-false, eq-eqb, ne-eqb}
+use borrow.Author.Tests.{eqb-true, eqb-false, ne-eqb}
 use Rattle.rules.specs.Lists.{keep, has, upto, erase, without}
-use Rattle.rules.proofs.Tests.{cases, clash}
+use Rattle.rules.proofs.Tests.{cases}
 
 -- ---- the entries that pass a test
 

@@ -1,16 +1,16 @@
 -- Demand 3 over one reference: threshold, list and answer stay the history's. Assumes nothing.
-use Prim.Native.Nat.{ℕ, suc, _+_, _≤_, _<_, min, max}
+use Prim.Native.Nat.{ℕ, suc, _≤_, _<_}
 use mathlib.Core.Path.{_≡_, refl, sym, ap, subst, _∙_}
-use mathlib.Core.Bool.{Bool, true, false, cond}
+use mathlib.Core.Bool.{true, false}
 use mathlib.Core.List.{List, [], _∷_}
-use mathlib.Core.Option.{Option, some, none}
+use mathlib.Core.Option.{some, none}
 use native.Mathlib.Omega.{arith}
 use lib.ListN.{length}
 use lib.Dec.{ltb}
 use borrow.Author.Tests.{ltb-true, ltb-false, lt-ltb, le-ltb}
 use Rattle.rules.specs.Lists.{keep, has, upto, erase, without}
 use Rattle.rules.specs.Settings.{Histogram}
-use Rattle.rules.specs.Reference.{Sample, Profile, firstPlace, toFront, under, largest, keepBelow, lowered, recordIn, bucketFor, settled, Reply, skipped, first, again, Stepped, sampled, step}
+use Rattle.rules.specs.Reference.{Sample, Profile, firstPlace, under, largest, keepBelow, lowered, recordIn, bucketFor, settled, skipped, first, again, sampled, step}
 use Rattle.rules.specs.History.{recency, different, distance, Largest}
 use Rattle.rules.proofs.Tests.{cases}
 use Rattle.rules.proofs.Lists.{keep-keep, keep-length, keep-narrow, without-out, has-keep, Once, once-keep, erase-without, length-erase, upto-keep}

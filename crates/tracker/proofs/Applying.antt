@@ -11,10 +11,9 @@ use Rattle.rules.specs.declared.Started.the-variants as started
 use Rattle.rules.specs.declared.Referred.{Referred}
 use Rattle.rules.specs.declared.Answer.{Answer}
 use Rattle.rules.specs.declared.Answer.the-variants as answer
-use Rattle.rules.specs.Settings.{Tables}
 use Rattle.rules.specs.Answers.{gives, saidAnswer, saidTaken}
 use Rattle.rules.specs.Events.{settingsOf}
-use Rattle.rules.specs.Refusals.{Held, held, tablesOf, Outcome, Beginning, setupOf, restartOf, referOf, startedOver, goingOn, referAll, applyOf, afterStarted, afterReferred, afterApplied}
+use Rattle.rules.specs.Refusals.{Held, held, Beginning, setupOf, restartOf, referOf, startedOver, goingOn, referAll, applyOf, afterStarted, afterReferred, afterApplied}
 use Rattle.tracker.specs.Tracker.{startedOn, takenOf, takenFrom}
 
 -- a list of one reference

@@ -1,11 +1,11 @@
 -- A point from the report's sums, and its numbers within what a double holds. Assumes nothing.
-use Prim.Native.Nat.{ℕ, _+_, _-_, _*_, _≤_, _<_, _^_}
-use mathlib.Core.Path.{_≡_, refl, sym, ap, subst, _∙_}
+use Prim.Native.Nat.{ℕ, _≤_, _<_, _^_}
+use mathlib.Core.Path.{_≡_, sym, subst, _∙_}
 use mathlib.Core.Bool.{true, false, cond}
-use native.Mathlib.Nat.{mul-le-mul-left, mul-le-mul-right}
+use native.Mathlib.Nat.{mul-le-mul-left}
 use native.Mathlib.Omega.{arith}
 use lib.Dec.{ltb, eqb}
-use lib.Ieee.{Float, binary64, round, div}
+use lib.Ieee.{binary64, round, div}
 use lib.Ieee.Exact.{HasValue}
 use lib.Ieee.Back.{round-whole}
 use borrow.Author.Tests.{le-ltb, ltb-false, eqb-false}
@@ -14,11 +14,11 @@ use Rattle.rules.specs.declared.Shape.{Shape}
 use Rattle.rules.specs.declared.Point.{Point}
 use Rattle.rules.specs.declared.Sums.{Sums}
 use Rattle.rules.specs.Settings.{Histogram, needed, bucketsTooShort}
-use Rattle.rules.specs.Curve.{sumTo, hitsAt, totalOf, curvePoint, plotPoint}
-use Rattle.rules.specs.Answers.{Said, refused, gives}
-use Rattle.rules.specs.Refusals.{profileOf, tornRecord, tornReport, stale, pointOf, onGives, plotOf}
+use Rattle.rules.specs.Curve.{hitsAt, totalOf, curvePoint, plotPoint}
+use Rattle.rules.specs.Answers.{refused, gives}
+use Rattle.rules.specs.Refusals.{profileOf, tornRecord, tornReport, stale, pointOf}
 use Rattle.rules.proofs.Tests.{cases}
-use Rattle.rules.proofs.Bounds.{Whole, whole, buckets-long}
+use Rattle.rules.proofs.Bounds.{whole, buckets-long}
 use Rattle.rules.proofs.Report.{sum-rises, total-high}
 use Rattle.rules.proofs.Calls.{not-both, point-torn, point-short, point-stale, point-number, point-buckets, point-empty, point-given}
 use Rattle.buckets.specs.Buckets.{reportOf}

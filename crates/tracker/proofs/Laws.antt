@@ -8,7 +8,7 @@ use Rattle.rules.specs.declared.Record.{Record}
 use Rattle.rules.specs.declared.Started.the-variants as started
 use Rattle.rules.specs.Settings.{Histogram, Tables, withDefaults, outOfRange, tooShort}
 use Rattle.rules.specs.Answers.{refused, gives}
-use Rattle.rules.specs.Refusals.{bucketsOf, freshRecord, freshTables, Beginning, afterStarted, setupOf}
+use Rattle.rules.specs.Refusals.{bucketsOf, freshRecord, freshTables, afterStarted, setupOf}
 use Rattle.rules.proofs.Calls.{setup-range, setup-short, setup-accept}
 
 -- a fresh start was made

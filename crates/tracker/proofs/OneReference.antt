@@ -2,9 +2,8 @@
 use Prim.Native.Nat.{ℕ, suc, _+_, _≤_, _<_}
 use mathlib.Core.Path.{_≡_, refl, sym, ap, _∙_}
 use mathlib.Core.Bool.{true, false, cond}
-use mathlib.Core.List.{List, [], _∷_}
+use mathlib.Core.List.{List, _∷_}
 use mathlib.Core.Option.{Option, some, none}
-use native.Mathlib.Numerals.{add-one}
 use native.Mathlib.Omega.{arith}
 use lib.Dec.{ltb}
 use lib.ListN.{length, take}
@@ -14,10 +13,10 @@ use Rattle.rules.specs.declared.Record.{Record}
 use Rattle.rules.specs.declared.Refusal.the-variants as refusal
 use Rattle.rules.specs.declared.Answer.the-variants as answer
 use Rattle.rules.specs.Lists.{over}
-use Rattle.rules.specs.Settings.{Histogram, needed, tooShort, mostReferences, full}
-use Rattle.rules.specs.Reference.{Profile, firstPlace, toFront, under, recordIn, bucketFor, settled, Stepped, sampled, step, again, first, skipped}
-use Rattle.rules.specs.Answers.{Said, refused, gives}
-use Rattle.rules.specs.Refusals.{Held, Outcome, bucketsOf, tablesOf, held, tornRecord, liveOf, sampleOf, hashFor, profileOf, laid, tornAt, tornFor, refusing, stepOf, referOf, afterReferred}
+use Rattle.rules.specs.Settings.{needed, tooShort, mostReferences, full}
+use Rattle.rules.specs.Reference.{firstPlace, toFront, under, recordIn, bucketFor, settled, sampled, again, first, skipped}
+use Rattle.rules.specs.Answers.{refused, gives}
+use Rattle.rules.specs.Refusals.{Held, bucketsOf, tablesOf, held, tornRecord, liveOf, sampleOf, hashFor, profileOf, laid, tornAt, tornFor, referOf, afterReferred}
 use Rattle.rules.proofs.Tests.{cases, clash}
 use Rattle.rules.proofs.Tables.{over-same}
 use Rattle.rules.proofs.Places.{front-length}
@@ -26,7 +25,7 @@ use Rattle.rules.proofs.Steps.{step-skipped, step-sampled}
 use Rattle.rules.proofs.Clean.{bucket-needed}
 use Rattle.rules.proofs.FullRate.{widths-cut}
 use Rattle.rules.proofs.Calls.{Accepted, refer-bucket, refer-accept}
-use Rattle.buckets.specs.Buckets.{recorded, recordedOf, Recorded}
+use Rattle.buckets.specs.Buckets.{recorded, recordedOf}
 use Rattle.buckets.proofs.Laws.{recorded-needed}
 use Rattle.live.specs.declared.Lowered.{Lowered}
 use Rattle.live.specs.Live.{movedToFront, lowering, loweringOf}

@@ -1,4 +1,3 @@
-use mathlib.Core.Path.{_≡_, refl, sym, ap, _∙_}
 use Rattle.tracker.proofs.Applying.{apply-location, apply-span, apply-nothing, apply-restart, apply-setup}
 use borrow.Author.Needs.{needs}
 use Rattle.tracker.proofs.apply.Statement.{statement}

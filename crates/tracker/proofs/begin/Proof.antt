@@ -1,6 +1,6 @@
 use Rattle.rules.specs.Refusals.{bucketsOf}
 use native.Mathlib.Omega.{arith}
-use mathlib.Core.Path.{_≡_, refl, sym, ap, _∙_}
+use mathlib.Core.Path.{refl}
 use Rattle.rules.proofs.Bounds.{in-range, buckets-long}
 use borrow.Author.Needs.{needs}
 use Rattle.tracker.proofs.begin.Statement.{statement}

@@ -1,9 +1,7 @@
 use borrow.Author.Needs.{needs}
 use Prim.Native.Nat.{_≤_, _-_}
-use mathlib.Core.Path.{_≡_, ap, _∙_}
+use mathlib.Core.Path.{_≡_}
 use native.Mathlib.Omega.{arith}
-use Rattle.rules.specs.Lists.{over}
-use lib.ListN.{length, replicate}
 use Rattle.rules.proofs.Tables.{Filled, fill-none, fill-more}
 use Rattle.tracker.proofs.clear.Statement.{statement}
 use Rattle.tracker.proofs.clear.Tie as tie

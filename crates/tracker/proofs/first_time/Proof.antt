@@ -1,5 +1,5 @@
 use native.Mathlib.Omega.{arith}
-use mathlib.Core.Path.{_≡_, refl, sym, ap, _∙_}
+use mathlib.Core.Path.{refl}
 use Rattle.tracker.proofs.OneReference.{bounds, room-left, nothing-recorded, first-room, first-lowered}
 use borrow.Author.Needs.{needs}
 use Rattle.tracker.proofs.first_time.Statement.{statement}

@@ -1,4 +1,4 @@
-use mathlib.Core.Path.{_≡_, refl, sym, ap, _∙_}
+use mathlib.Core.Path.{refl}
 use Rattle.rules.specs.Settings.{outOfRange}
 use Rattle.tracker.proofs.out_of_range.Statement.{statement}
 use Rattle.tracker.proofs.out_of_range.Tie as tie

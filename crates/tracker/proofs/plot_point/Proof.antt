@@ -1,5 +1,4 @@
-use mathlib.Core.Path.{_≡_, refl, sym, ap, _∙_}
-use native.Mathlib.Nat.{le-of-lt}
+use mathlib.Core.Path.{sym, ap, _∙_}
 use lib.Dec.{le→leb}
 use lib.Ieee.{inFloat, ofInt}
 use Rattle.rules.specs.Curve.{plotPoint}

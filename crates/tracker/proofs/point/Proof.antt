@@ -1,5 +1,5 @@
 use native.Mathlib.Omega.{arith}
-use mathlib.Core.Path.{_≡_, refl, sym, ap, _∙_}
+use mathlib.Core.Path.{sym, ap, _∙_}
 use borrow.Author.Tests.{lt-ltb}
 use Rattle.rules.specs.Answers.{saidReported}
 use Rattle.rules.proofs.Bounds.{whole}

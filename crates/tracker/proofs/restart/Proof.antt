@@ -1,6 +1,5 @@
 use Rattle.tracker.proofs.Laws.{started-is}
-use mathlib.Core.Path.{_≡_, refl, sym, ap, _∙_}
-use Rattle.rules.specs.Answers.{gives}
+use mathlib.Core.Path.{sym, _∙_}
 use Rattle.rules.specs.Refusals.{tablesOf}
 use Rattle.rules.proofs.Bounds.{whole, buckets-none-short}
 use Rattle.rules.proofs.Calls.{restart-torn, restart-short, restart-accept}

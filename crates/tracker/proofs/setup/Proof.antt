@@ -1,4 +1,4 @@
-use mathlib.Core.Path.{_≡_, sym, _∙_}
+use mathlib.Core.Path.{sym, _∙_}
 use Rattle.tracker.proofs.Laws.{started-is, setup-no-range, setup-no-room, setup-made}
 use Rattle.rules.specs.Refusals.{tablesOf}
 use Rattle.rules.proofs.Bounds.{buckets-none-short}

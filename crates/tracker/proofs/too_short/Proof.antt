@@ -1,4 +1,3 @@
-use mathlib.Core.Path.{_≡_, refl, sym, ap, _∙_}
 use borrow.Author.Needs.{needs}
 use Rattle.tracker.proofs.too_short.Statement.{statement}
 use Rattle.tracker.proofs.too_short.Tie as tie

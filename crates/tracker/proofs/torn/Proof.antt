@@ -1,4 +1,3 @@
-use mathlib.Core.Path.{_≡_, refl, sym, ap, _∙_}
 use Rattle.rules.specs.Refusals.{tornRecord}
 use borrow.Author.Needs.{needs}
 use Rattle.tracker.proofs.torn.Statement.{statement}
