@@ -1,0 +1,195 @@
+//! The proved code, as C calls it.
+
+use crate::plain::{Answer, Event, Point, Record, Settings, Tables};
+
+#[repr(C)]
+#[derive(Clone, Copy)]
+struct CSettings {
+    limit: u64,
+    start: u64,
+    width: u64,
+    buckets: u64,
+    hash_kind: u64,
+}
+
+#[repr(C)]
+#[derive(Clone, Copy)]
+struct CShape {
+    buckets: u64,
+    width: u64,
+}
+
+extern "C" {
+    fn rockgingham_hash(kind: u64, location: u64) -> u64;
+    fn rockgingham_setup(
+        record: *mut u64,
+        settings: CSettings,
+        locations: *const u64,
+        locations_length: usize,
+        counts: *mut u64,
+        counts_length: usize,
+        thresholds: *mut u32,
+        thresholds_length: usize,
+    ) -> u64;
+    fn rockgingham_refer(
+        record: *mut u64,
+        answer: *mut u64,
+        location: u64,
+        locations: *mut u64,
+        locations_length: usize,
+        counts: *mut u64,
+        counts_length: usize,
+        thresholds: *mut u32,
+        thresholds_length: usize,
+    ) -> u64;
+    fn rockgingham_point(
+        record: *const u64,
+        point: *mut u64,
+        believed: CShape,
+        number: u64,
+        counts: *const u64,
+        counts_length: usize,
+        thresholds: *const u32,
+        thresholds_length: usize,
+    ) -> u64;
+    fn rockgingham_read(event: *mut u64, bytes: *const u8, length: usize) -> u64;
+}
+
+pub fn hash_of(kind: u64, location: u64) -> u64 {
+    // SAFETY: two numbers are handed over.
+    unsafe { rockgingham_hash(kind, location) }
+}
+
+/// A record as its words, in the header's order.
+pub fn words(k: &Record) -> [u64; 9] {
+    let s = k.settings;
+    [
+        s.limit,
+        s.start,
+        s.width,
+        s.buckets,
+        s.hash_kind,
+        k.threshold,
+        k.live,
+        k.references,
+        k.sampled,
+    ]
+}
+
+pub fn setup(given: Settings, t: &mut Tables) -> Result<[u64; 9], u64> {
+    let mut record = [0; 9];
+    let settings = CSettings {
+        limit: given.limit,
+        start: given.start,
+        width: given.width,
+        buckets: given.buckets,
+        hash_kind: given.hash_kind,
+    };
+    // SAFETY: each pointer comes with its own length, and no two of them overlap.
+    let refusal = unsafe {
+        rockgingham_setup(
+            record.as_mut_ptr(),
+            settings,
+            t.locations.as_ptr(),
+            t.locations.len(),
+            t.counts.as_mut_ptr(),
+            t.counts.len(),
+            t.thresholds.as_mut_ptr(),
+            t.thresholds.len(),
+        )
+    };
+    if refusal == 0 {
+        Ok(record)
+    } else {
+        Err(refusal)
+    }
+}
+
+#[inline(always)]
+pub fn refer(record: &mut [u64; 9], location: u64, t: &mut Tables) -> Result<Answer, u64> {
+    let mut answer = [0; 2];
+    // SAFETY: each pointer comes with its own length, and no two of them overlap.
+    let refusal = unsafe {
+        rockgingham_refer(
+            record.as_mut_ptr(),
+            answer.as_mut_ptr(),
+            location,
+            t.locations.as_mut_ptr(),
+            t.locations.len(),
+            t.counts.as_mut_ptr(),
+            t.counts.len(),
+            t.thresholds.as_mut_ptr(),
+            t.thresholds.len(),
+        )
+    };
+    match (refusal, answer[0]) {
+        (0, 0) => Ok(Answer::Skipped),
+        (0, 1) => Ok(Answer::Again(answer[1])),
+        (0, _) => Ok(Answer::First),
+        (number, _) => Err(number),
+    }
+}
+
+#[inline(always)]
+pub fn point(
+    record: &[u64; 9],
+    believed: (u64, u64),
+    number: u64,
+    t: &Tables,
+) -> Result<Point, u64> {
+    let mut point = [0; 4];
+    let shape = CShape {
+        buckets: believed.0,
+        width: believed.1,
+    };
+    // SAFETY: each pointer comes with its own length, and no two of them overlap.
+    let refusal = unsafe {
+        rockgingham_point(
+            record.as_ptr(),
+            point.as_mut_ptr(),
+            shape,
+            number,
+            t.counts.as_ptr(),
+            t.counts.len(),
+            t.thresholds.as_ptr(),
+            t.thresholds.len(),
+        )
+    };
+    let [size, hits, misses, total] = point;
+    if refusal == 0 {
+        Ok(Point {
+            size,
+            hits,
+            misses,
+            total,
+        })
+    } else {
+        Err(refusal)
+    }
+}
+
+/// The first event of the bytes as words, with how many it took.
+#[inline(always)]
+pub fn read(bytes: &[u8], event: &mut [u64; 7]) -> u64 {
+    // SAFETY: the bytes come with their own length; the words are seven.
+    unsafe { rockgingham_read(event.as_mut_ptr(), bytes.as_ptr(), bytes.len()) }
+}
+
+/// An event as its words, in the header's order.
+pub fn event_words(event: Event, taken: usize) -> [u64; 7] {
+    let taken = taken as u64;
+    match event {
+        Event::Location(x) => [1, taken, x, 0, 0, 0, 0],
+        Event::Span(offset, length) => [2, taken, offset, length.into(), 0, 0, 0],
+        Event::Restart => [3, taken, 0, 0, 0, 0, 0],
+        Event::Setup([a, b, c, d], kind) => [
+            4,
+            taken,
+            a.into(),
+            b.into(),
+            c.into(),
+            d.into(),
+            kind.into(),
+        ],
+    }
+}
