@@ -1,0 +1,155 @@
+-- What crosses to C: the record, and what each call gives, as words. Every call but the hash answers a number, 0 or the refusal's. Assumes nothing.
+use Prim.Native.Nat.{ℕ}
+use mathlib.Core.List.{List, [], _∷_}
+use lib.ListN.{getD}
+use lib.Ieee.{Float}
+use Rattle.rules.specs.declared.Settings.{Settings}
+use Rattle.rules.specs.declared.Record.{Record}
+use Rattle.rules.specs.declared.Shape.{Shape}
+use Rattle.rules.specs.declared.Point.{Point}
+use Rattle.rules.specs.declared.PlotPoint.{PlotPoint}
+use Rattle.rules.specs.declared.Body.{Body}
+use Rattle.rules.specs.declared.Event.{Event}
+use Rattle.rules.specs.declared.Event.the-variants.{Location, Span, Restart, Setup}
+use Rattle.driver.specs.declared.Asked.{Asked}
+use Rattle.driver.specs.declared.Believed.{Believed}
+use Rattle.rules.specs.Settings.{hashOf, Histogram, Tables}
+use Rattle.rules.specs.Reference.{Reply, skipped, first, again}
+use Rattle.rules.specs.Answers.{Said, refused, gives, Got}
+use Rattle.rules.specs.Events.{Filling, writeOf, readOf}
+use Rattle.rules.specs.Refusals.{Beginning, Outcome, setupOf, restartOf, referOf, pointOf, plotOf}
+
+-- ---- the record: limit, start, width, buckets, hash kind, threshold, live, references, sampled
+
+abbrev pub recordOf : List ℕ → Record
+recordOf w = record {
+  settings = record { limit = getD w 0 0; start = getD w 1 0; width = getD w 2 0; buckets = getD w 3 0; hashing = record { kind = getD w 4 0 } };
+  threshold = getD w 5 0;
+  live = getD w 6 0;
+  numbers = record { references = getD w 7 0; sampled = getD w 8 0 };
+}
+
+abbrev pub wordsOf : Record → List ℕ
+wordsOf k =
+    k .settings .limit ∷ k .settings .start ∷ k .settings .width ∷ k .settings .buckets ∷ k .settings .hashing .kind
+    ∷ k .threshold ∷ k .live ∷ k .numbers .references ∷ k .numbers .sampled ∷ []
+
+-- ---- what calls give, as words
+
+-- 0 Skipped, 1 Again with the place, 2 First
+abbrev pub replyWords : Reply → List ℕ
+replyWords skipped = 0 ∷ 0 ∷ []
+replyWords (again d) = 1 ∷ d ∷ []
+replyWords first = 2 ∷ 0 ∷ []
+
+-- size, hits, misses, total
+abbrev pub pointWords : Point → List ℕ
+pointWords p = p .size ∷ p .hits ∷ p .misses ∷ p .total ∷ []
+
+-- size, ratio
+abbrev pub plotWords : PlotPoint → List Float
+plotWords p = p .size ∷ p .ratio ∷ []
+
+-- the kind, the bytes taken, then the numbers of the body, and zeros
+abbrev pub kindAndBody : Event → (taken : ℕ) → List ℕ
+kindAndBody (Location x) n = 1 ∷ n ∷ x ∷ 0 ∷ 0 ∷ 0 ∷ 0 ∷ []
+kindAndBody (Span offset length) n = 2 ∷ n ∷ offset ∷ length ∷ 0 ∷ 0 ∷ 0 ∷ []
+kindAndBody Restart n = 3 ∷ n ∷ 0 ∷ 0 ∷ 0 ∷ 0 ∷ 0 ∷ []
+kindAndBody (Setup b) n = 4 ∷ n ∷ b .limit ∷ b .start ∷ b .width ∷ b .buckets ∷ b .kind ∷ []
+
+abbrev pub eventWords : Got → List ℕ
+eventWords g = kindAndBody (g .event) (g .taken)
+
+-- the settings asked for, as C hands them over
+abbrev pub settingsFrom : Asked → Settings
+settingsFrom g = record { limit = g .limit; start = g .start; width = g .width; buckets = g .buckets; hashing = record { kind = g .kind } }
+
+-- the shape believed, as C hands it over
+abbrev pub shapeFrom : Believed → Shape
+shapeFrom b = record { buckets = b .buckets; width = b .width }
+
+-- the body of a kind 4 event, as C hands it over
+abbrev pub bodyFrom : (limit start width buckets kind : ℕ) → Body
+bodyFrom limit start width buckets kind = record { limit = limit; start = start; width = width; buckets = buckets; kind = kind }
+
+-- ---- the calls
+
+-- the hash of a location
+abbrev pub hashIn : (kind location : ℕ) → ℕ
+hashIn kind location = hashOf (record { kind = kind }) location
+
+-- 0 when accepted, or the refusal's number
+abbrev pub numberOf : {A : Type 0} → Said A → ℕ
+numberOf (refused n) = n
+numberOf (gives a) = 0
+
+-- the words of what is given; a refusal leaves those that stood there
+abbrev pub put : {A C : Type 0} → (A → C) → Said A → C → C
+put words (refused n) old = old
+put words (gives a) old = words a
+
+-- what a start leaves: its number, the record's words, the tables
+pub record Started : Type 0 where
+  pub number : ℕ
+  pub words : List ℕ
+  pub tables : Tables
+
+abbrev pub started : (number : ℕ) (words : List ℕ) → Tables → Started
+started number words tables = record { number = number; words = words; tables = tables }
+
+-- a start, by what the rules say of it
+abbrev pub begun : Beginning → (words : List ℕ) → Started
+begun b w = started (numberOf (b .said)) (put wordsOf (b .said) w) (b .tables)
+
+abbrev pub setupIn : Settings → (words : List ℕ) → Tables → Started
+setupIn given w t = begun (setupOf given t) w
+
+abbrev pub restartIn : (words : List ℕ) → Tables → Started
+restartIn w t = begun (restartOf (recordOf w) t) w
+
+-- what a reference leaves: its number, the record's words, the answer's words, the tables
+pub record Referred : Type 0 where
+  pub number : ℕ
+  pub words : List ℕ
+  pub answer : List ℕ
+  pub tables : Tables
+
+abbrev pub referred : (number : ℕ) (words answer : List ℕ) → Tables → Referred
+referred number words answer tables = record { number = number; words = words; answer = answer; tables = tables }
+
+-- a refused reference leaves the words as they were
+abbrev pub keptWords : Outcome Reply → (words : List ℕ) → List ℕ
+keptWords o w = put (λ r. wordsOf (o .left .kept)) (o .said) w
+
+-- a reference, by what the rules say of it
+abbrev pub stepped : Outcome Reply → (words answer : List ℕ) → Referred
+stepped o w a = referred (numberOf (o .said)) (keptWords o w) (put replyWords (o .said) a) (o .left .tables)
+
+abbrev pub referIn : (location : ℕ) (words answer : List ℕ) → Tables → Referred
+referIn x w a t = stepped (referOf x (record { kept = recordOf w; tables = t })) w a
+
+-- what a call gives into words or bytes that it is lent
+pub record Given (C : Type 0) : Type 0 where
+  pub number : ℕ
+  pub words : C
+
+abbrev pub given : {C : Type 0} → (number : ℕ) (words : C) → Given C
+given number words = record { number = number; words = words }
+
+abbrev pub into : {A C : Type 0} → (A → C) → Said A → (words : C) → Given C
+into f s w = given (numberOf s) (put f s w)
+
+abbrev pub pointIn : (words : List ℕ) → Shape → (point : ℕ) → Histogram → (values : List ℕ) → Given (List ℕ)
+pointIn w believed k g values = into pointWords (pointOf (recordOf w) believed k g) values
+
+abbrev pub plotIn : (words : List ℕ) → Shape → (point : ℕ) → Histogram → (values : List Float) → Given (List Float)
+plotIn w believed k g values = into plotWords (plotOf (recordOf w) believed k g) values
+
+abbrev pub readIn : (bytes values : List ℕ) → Given (List ℕ)
+readIn bytes values = into eventWords (readOf bytes) values
+
+abbrev pub written : Filling → Given (List ℕ)
+written f = given (numberOf (f .said)) (f .buffer)
+
+abbrev pub writeIn : Event → (buffer : List ℕ) → Given (List ℕ)
+writeIn e buffer = written (writeOf e buffer)

@@ -1,0 +1,328 @@
+// What a driver in C links: include/rockgingham.h says the same for its readers. Every function takes anything and, but for the hash,
+// answers 0, or the number of a refusal, which changes no word, table or byte.
+use rules::Answer;
+use rules::Body;
+use rules::Event;
+use rules::Hashing;
+use rules::Numbers;
+use rules::Plotted;
+use rules::Pointed;
+use rules::Reading;
+use rules::Record;
+use rules::Refusal;
+use rules::Settings;
+use rules::Shape;
+use rules::Started;
+use rules::Written;
+ghost use mathlib.Core.Path.{_≡_};
+ghost use Rattle.rules.specs.Answers.{number, saidWritten};
+ghost use Rattle.rules.specs.Refusals.{tablesOf, bucketsOf};
+ghost use Rattle.driver.specs.Words.{recordOf, wordsOf, started, setupIn, restartIn, settingsFrom, hashIn, bodyFrom, referred, referIn, kindAndBody, given, shapeFrom, pointIn, plotIn, readIn, numberOf, writeIn};
+
+// The settings asked for: a zero stands for its default, except the hash kind.
+#[repr(C)]
+pub struct Asked {
+    pub limit: u64,
+    pub start: u64,
+    pub width: u64,
+    pub buckets: u64,
+    pub kind: u64,
+}
+
+// The shape that the caller believes the curve to have.
+#[repr(C)]
+pub struct Believed {
+    pub buckets: u64,
+    pub width: u64,
+}
+
+// The record's words, as a record. This and words_of alone know their order.
+fn record_of(words: [u64; 9]) -> Record
+    ensures { λ r. ⌜ r ≡ recordOf words ⌝ }
+{
+    Record {
+        settings: Settings {
+            limit: words[0],
+            start: words[1],
+            width: words[2],
+            buckets: words[3],
+            hashing: Hashing { kind: words[4] },
+        },
+        threshold: words[5],
+        live: words[6],
+        numbers: Numbers {
+            references: words[7],
+            sampled: words[8],
+        },
+    }
+}
+
+// A record's words.
+fn words_of(k: Record) -> [u64; 9]
+    ensures { λ r. ⌜ r ≡ wordsOf k ⌝ }
+{
+    let s = k.settings;
+    let n = k.numbers;
+    [
+        s.limit,
+        s.start,
+        s.width,
+        s.buckets,
+        s.hashing.kind,
+        k.threshold,
+        k.live,
+        n.references,
+        n.sampled,
+    ]
+}
+
+fn settings_from(asked: Asked) -> Settings
+    ensures { λ r. ⌜ r ≡ settingsFrom asked ⌝ }
+{
+    Settings {
+        limit: asked.limit,
+        start: asked.start,
+        width: asked.width,
+        buckets: asked.buckets,
+        hashing: Hashing { kind: asked.kind },
+    }
+}
+
+fn shape_from(believed: Believed) -> Shape
+    ensures { λ r. ⌜ r ≡ shapeFrom believed ⌝ }
+{
+    Shape {
+        buckets: believed.buckets,
+        width: believed.width,
+    }
+}
+
+// The hash of a location, below 2^24: of kind 0 the location, of any other kind its finaliser, modulo 2^24.
+#[no_mangle]
+pub extern "C" fn rockgingham_hash(kind: u64, location: u64) -> u64
+    ensures { λ r. ⌜ r ≡ hashIn kind location ⌝ }
+{
+    hash::hash_of(Hashing { kind }, location)
+}
+
+// A refusal's number.
+fn number_of(why: Refusal) -> u64
+    ensures { λ r. ⌜ r ≡ number why ⌝ }
+{
+    match why {
+        Refusal::Settings => 1,
+        Refusal::Tables => 2,
+        Refusal::Torn => 3,
+        Refusal::Full => 4,
+        Refusal::Stale => 5,
+        Refusal::Point => 6,
+        Refusal::Short => 7,
+        Refusal::Kind => 8,
+        Refusal::Empty => 9,
+    }
+}
+
+// A fresh start with these settings.
+#[no_mangle]
+pub extern "C" fn rockgingham_setup(
+    words: &mut [u64; 9],
+    asked: Asked,
+    locations: &[u64],
+    counts: &mut [u64],
+    thresholds: &mut [u32],
+) -> u64
+    ensures { λ r. ⌜ started r (now (words .exit)) (tablesOf (now (locations .entry)) (now (counts .exit)) (now (thresholds .exit))) ≡ setupIn (settingsFrom asked) (now (words .entry)) (tablesOf (now (locations .entry)) (now (counts .entry)) (now (thresholds .entry))) ⌝ }
+{
+    match tracker::setup(settings_from(asked), locations, counts, thresholds) {
+        Started::Ready(k) => {
+            *words = words_of(k);
+            0
+        }
+        Started::Refused(why) => number_of(why),
+    }
+}
+
+// A fresh start with the record's own settings.
+#[no_mangle]
+pub extern "C" fn rockgingham_restart(
+    words: &mut [u64; 9],
+    locations: &[u64],
+    counts: &mut [u64],
+    thresholds: &mut [u32],
+) -> u64
+    ensures { λ r. ⌜ started r (now (words .exit)) (tablesOf (now (locations .entry)) (now (counts .exit)) (now (thresholds .exit))) ≡ restartIn (now (words .entry)) (tablesOf (now (locations .entry)) (now (counts .entry)) (now (thresholds .entry))) ⌝ }
+{
+    match tracker::restart(record_of(*words), locations, counts, thresholds) {
+        Started::Ready(k) => {
+            *words = words_of(k);
+            0
+        }
+        Started::Refused(why) => number_of(why),
+    }
+}
+
+// One reference: 0 Skipped, 1 Again with the place, 2 First.
+#[no_mangle]
+pub extern "C" fn rockgingham_refer(
+    words: &mut [u64; 9],
+    answer: &mut [u64; 2],
+    location: u64,
+    locations: &mut [u64],
+    counts: &mut [u64],
+    thresholds: &mut [u32],
+) -> u64
+    ensures { λ r. ⌜ referred r (now (words .exit)) (now (answer .exit)) (tablesOf (now (locations .exit)) (now (counts .exit)) (now (thresholds .exit))) ≡ referIn location (now (words .entry)) (now (answer .entry)) (tablesOf (now (locations .entry)) (now (counts .entry)) (now (thresholds .entry))) ⌝ }
+{
+    let r = tracker::refer(record_of(*words), location, locations, counts, thresholds);
+    let said = r.answer;
+    match said {
+        Answer::Skipped => {
+            *words = words_of(r.kept);
+            *answer = [0, 0];
+            0
+        }
+        Answer::Again(place) => {
+            *words = words_of(r.kept);
+            *answer = [1, place];
+            0
+        }
+        Answer::First => {
+            *words = words_of(r.kept);
+            *answer = [2, 0];
+            0
+        }
+        Answer::Refused(why) => number_of(why),
+    }
+}
+
+// A point: its size, hits, misses and total.
+#[no_mangle]
+pub extern "C" fn rockgingham_point(
+    words: &[u64; 9],
+    point: &mut [u64; 4],
+    believed: Believed,
+    number: u64,
+    counts: &[u64],
+    thresholds: &[u32],
+) -> u64
+    ensures { λ r. ⌜ given r (now (point .exit)) ≡ pointIn (now (words .entry)) (shapeFrom believed) number (bucketsOf (now (counts .entry)) (now (thresholds .entry))) (now (point .entry)) ⌝ }
+{
+    let shape = shape_from(believed);
+    match tracker::point(record_of(*words), shape, number, counts, thresholds) {
+        Pointed::At(p) => {
+            *point = [p.size, p.hits, p.misses, p.total];
+            0
+        }
+        Pointed::Refused(why) => number_of(why),
+    }
+}
+
+// The same point as a pair of doubles: the size, and misses divided by total.
+#[no_mangle]
+pub extern "C" fn rockgingham_plot(
+    words: &[u64; 9],
+    pair: &mut [f64; 2],
+    believed: Believed,
+    number: u64,
+    counts: &[u64],
+    thresholds: &[u32],
+) -> u64
+    ensures { λ r. ⌜ given r (now (pair .exit)) ≡ plotIn (now (words .entry)) (shapeFrom believed) number (bucketsOf (now (counts .entry)) (now (thresholds .entry))) (now (pair .entry)) ⌝ }
+{
+    let shape = shape_from(believed);
+    match tracker::plot_point(record_of(*words), shape, number, counts, thresholds) {
+        Plotted::At(p) => {
+            *pair = [p.size, p.ratio];
+            0
+        }
+        Plotted::Refused(why) => number_of(why),
+    }
+}
+
+// An event's words.
+fn event_words(event: Event, taken: usize) -> [u64; 7]
+    ensures { λ r. ⌜ r ≡ kindAndBody event taken ⌝ }
+{
+    let n = taken as u64;
+    match event {
+        Event::Location(location) => [1, n, location, 0, 0, 0, 0],
+        Event::Span { offset, length } => [2, n, offset, length as u64, 0, 0, 0],
+        Event::Restart => [3, n, 0, 0, 0, 0, 0],
+        Event::Setup(body) => [
+            4,
+            n,
+            body.limit as u64,
+            body.start as u64,
+            body.width as u64,
+            body.buckets as u64,
+            body.kind as u64,
+        ],
+    }
+}
+
+// The first event of the bytes: its kind, the number of bytes it took, the numbers of its body.
+#[no_mangle]
+pub extern "C" fn rockgingham_read(event: &mut [u64; 7], bytes: &[u8]) -> u64
+    ensures { λ r. ⌜ given r (now (event .exit)) ≡ readIn (now (bytes .entry)) (now (event .entry)) ⌝ }
+{
+    match trace::read(bytes) {
+        Reading::Got(e, taken) => {
+            *event = event_words(e, taken);
+            0
+        }
+        Reading::Refused(why) => number_of(why),
+    }
+}
+
+// 0 for a whole event written, or the refusal's number.
+fn number_written(answer: Written) -> u64
+    ensures { λ r. ⌜ r ≡ numberOf (saidWritten answer) ⌝ }
+{
+    match answer {
+        Written::Filled(_) => 0,
+        Written::Refused(why) => number_of(why),
+    }
+}
+
+// Each kind of event is written by a function of its own, whose types hold nothing that the event could not.
+#[no_mangle]
+pub extern "C" fn rockgingham_write_location(location: u64, buffer: &mut [u8]) -> u64
+    ensures { λ r. ⌜ given r (now (buffer .exit)) ≡ writeIn (Event.Location location) (now (buffer .entry)) ⌝ }
+{
+    number_written(trace::write(Event::Location(location), buffer))
+}
+
+#[no_mangle]
+pub extern "C" fn rockgingham_write_span(offset: u64, length: u32, buffer: &mut [u8]) -> u64
+    ensures { λ r. ⌜ given r (now (buffer .exit)) ≡ writeIn (Event.Span offset length) (now (buffer .entry)) ⌝ }
+{
+    number_written(trace::write(Event::Span { offset, length }, buffer))
+}
+
+#[no_mangle]
+pub extern "C" fn rockgingham_write_restart(buffer: &mut [u8]) -> u64
+    ensures { λ r. ⌜ given r (now (buffer .exit)) ≡ writeIn Event.Restart (now (buffer .entry)) ⌝ }
+{
+    number_written(trace::write(Event::Restart, buffer))
+}
+
+#[no_mangle]
+pub extern "C" fn rockgingham_write_setup(
+    limit: u32,
+    start: u32,
+    width: u32,
+    buckets: u32,
+    kind: u8,
+    buffer: &mut [u8],
+) -> u64
+    ensures { λ r. ⌜ given r (now (buffer .exit)) ≡ writeIn (Event.Setup (bodyFrom limit start width buckets kind)) (now (buffer .entry)) ⌝ }
+{
+    let body = Body {
+        limit,
+        start,
+        width,
+        buckets,
+        kind,
+    };
+    number_written(trace::write(Event::Setup(body), buffer))
+}
