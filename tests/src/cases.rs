@@ -1,0 +1,242 @@
+//! The twelve cases of document 01's bench table, through the program or the library. The answers are the document's own.
+
+use crate::driver::{self, Driver, Lent};
+use crate::model::{Event, Record, Settings, Shape, Tracker, P};
+use crate::program::printed;
+use crate::published;
+use crate::random::Random;
+use crate::traces::same;
+
+fn input(setup: Event, locations: &[u64]) -> Vec<u8> {
+    let mut bytes = setup.bytes();
+    for location in locations {
+        bytes.extend(Event::Location(*location).bytes());
+    }
+    bytes
+}
+
+fn is<T: PartialEq + std::fmt::Debug>(what: &str, got: T, expected: T) -> Result<(), String> {
+    if got == expected {
+        Ok(())
+    } else {
+        Err(format!("{what}: {got:?}, expected {expected:?}"))
+    }
+}
+
+/// A driver set up with these settings, its tables just long enough.
+fn set_up(given: Settings) -> Result<Driver, String> {
+    let settings = given.with_defaults();
+    let needed = settings.buckets as usize + 2;
+    let mut driver = Driver::holding(&Tracker {
+        record: Record {
+            settings: given,
+            threshold: 0,
+            live: 0,
+            references: 0,
+            sampled: 0,
+        },
+        locations: vec![0; settings.limit as usize],
+        counts: vec![0; needed],
+        thresholds: vec![0; needed],
+    });
+    is("setup", driver.setup(given), 0)?;
+    Ok(driver)
+}
+
+fn settings(limit: u64, start: u64, width: u64, buckets: u64, kind: u64) -> Settings {
+    Settings {
+        limit,
+        start,
+        width,
+        buckets,
+        kind,
+    }
+}
+
+fn refer_all(driver: &mut Driver, locations: &[u64]) -> Result<(), String> {
+    for location in locations {
+        is("reference", driver.refer(*location).number, 0)?;
+    }
+    Ok(())
+}
+
+const LOCATIONS_OF_A: [u64; 6] = [1, 2, 1, 3, 2, 2];
+
+fn a() -> Result<(), String> {
+    let bytes = input(Event::Setup(4, P as u32, 1, 4, 0), &LOCATIONS_OF_A);
+    let expected = "curve refs 6 sampled 6 threshold 16777216 live 3\n\
+        0 1536 1536\n1 1280 1536\n2 1024 1536\n3 768 1536\n4 768 1536\nend\n";
+    same(&printed(&bytes)?, expected)
+}
+
+fn b() -> Result<(), String> {
+    let bytes: Vec<u8> = [
+        vec![4, 2, 0, 0, 0, 0x10, 0, 0, 0, 0, 0, 0x10, 0, 4, 0, 0, 0, 0],
+        vec![1, 10, 0, 0, 0, 0, 0, 0, 0, 1, 5, 0, 0, 0, 0, 0, 0, 0],
+        vec![1, 10, 0, 0, 0, 0, 0, 0, 0, 1, 7, 0, 0, 0, 0, 0, 0, 0],
+        vec![1, 5, 0, 0, 0, 0, 0, 0, 0],
+    ]
+    .concat();
+    let expected = "curve refs 5 sampled 5 threshold 10 live 2\n\
+        0 896 896\n1048576 896 896\n2097152 480 896\n3145728 480 896\n4194304 480 896\nend\n";
+    same(&printed(&bytes)?, expected)?;
+    let mut driver = set_up(settings(2, 16, 1 << 20, 4, 0))?;
+    refer_all(&mut driver, &[10, 5, 10])?;
+    is("the threshold before location 7", driver.word(5), 16)?;
+    refer_all(&mut driver, &[7])?;
+    is("the threshold after location 7", driver.word(5), 10)
+}
+
+fn first_line(bytes: &[u8]) -> Result<String, String> {
+    Ok(printed(bytes)?.lines().next().unwrap_or("").to_string())
+}
+
+fn c() -> Result<(), String> {
+    let bytes = input(Event::Setup(1, 16, 0, 0, 0), &[3, 16_777_219]);
+    let expected = "curve refs 2 sampled 2 threshold 3 live 0";
+    same(&first_line(&bytes)?, expected)
+}
+
+fn d() -> Result<(), String> {
+    let bytes = input(
+        Event::Setup(1, 16, 0, 0, 0),
+        &[0, 16_777_216, 0, 1, 16_777_216],
+    );
+    let expected = "curve refs 5 sampled 2 threshold 0 live 0\nempty\n";
+    same(&printed(&bytes)?, expected)
+}
+
+fn e() -> Result<(), String> {
+    let mut driver = set_up(settings(0, 1_677_721, 0, 0, 0))?;
+    refer_all(&mut driver, &[1, 2, 3, 4])?;
+    let said = driver.refer(1);
+    is("Again with D", said.values.inside().to_vec(), vec![1, 3])?;
+    let mut expected = vec![0; 258];
+    expected[30] = 256;
+    expected[257] = 1024;
+    is("counts", driver.counts.inside().to_vec(), expected)
+}
+
+fn f() -> Result<(), String> {
+    let mut driver = set_up(settings(2, 7, 0, 2, 0))?;
+    refer_all(&mut driver, &[1, 1])?;
+    is("count", driver.counts.inside()[0], 256)?;
+    is("bucket threshold", driver.thresholds.inside()[0], 7)?;
+    refer_all(&mut driver, &[5, 2])?;
+    is("the threshold first", driver.word(5), 5)?;
+    refer_all(&mut driver, &[4])?;
+    is("the threshold then", driver.word(5), 4)?;
+    let shape = Shape {
+        buckets: 2,
+        width: 1,
+    };
+    let said = driver.point(shape, 1);
+    is("point", said.number, 0)?;
+    is("hits at 1", said.values.inside()[1], 146)
+}
+
+fn g() -> Result<(), String> {
+    let mut driver = set_up(settings(4, P, 1, 4, 0))?;
+    refer_all(&mut driver, &LOCATIONS_OF_A)?;
+    let shape = Shape {
+        buckets: 4,
+        width: 1,
+    };
+    is("point 4", driver.point(shape, 4).number, 0)?;
+    is("point 5", driver.point(shape, 5).number, 6)
+}
+
+fn h() -> Result<(), String> {
+    let mut driver = set_up(settings(8192, 0, 0, 0, 0))?;
+    is("S 8,192", driver.setup(settings(8192, 0, 0, 0, 0)), 0)?;
+    let long = Tracker {
+        record: Record {
+            settings: settings(1, 1, 1, 1, 0),
+            threshold: 0,
+            live: 0,
+            references: 0,
+            sampled: 0,
+        },
+        locations: vec![0; 8193],
+        counts: vec![0; 258],
+        thresholds: vec![0; 258],
+    };
+    let mut driver = Driver::holding(&long);
+    is("S 8,193", driver.setup(settings(8193, 0, 0, 0, 0)), 1)?;
+    driver.compare(&long)
+}
+
+/// With T0 1 only a location whose hash is 0 is sampled.
+fn i() -> Result<(), String> {
+    is("the kind 1 hash of 0", driver::hash(1, 0), 0)?;
+    let bytes = input(Event::Setup(0, 1, 0, 0, 1), &[0]);
+    let expected = "curve refs 1 sampled 1 threshold 1 live 1";
+    same(&first_line(&bytes)?, expected)
+}
+
+fn j() -> Result<(), String> {
+    same(&printed(&[0])?, "refused 8 at 0\n")?;
+    is("read", driver::read(&mut Lent::new(&[0], 1)).number, 8)
+}
+
+fn k() -> Result<(), String> {
+    let said = driver::read(&mut Lent::new(&[3], 1));
+    is("read", said.number, 0)?;
+    is(
+        "event",
+        said.values.inside().to_vec(),
+        vec![3, 1, 0, 0, 0, 0, 0],
+    )?;
+    let expected = "curve refs 0 sampled 0 threshold 1677721 live 0\nempty\n";
+    same(&printed(&[3])?, expected)
+}
+
+fn l() -> Result<(), String> {
+    let bytes = [1, 2, 3, 4, 5, 6, 7, 8];
+    same(&printed(&bytes)?, "refused 7 at 0\n")?;
+    is("read", driver::read(&mut Lent::new(&bytes, 1)).number, 7)
+}
+
+/// The library's threshold after references to L and to 0, with S 1, T0 P and hash kind 1, is the published hash of L.
+pub fn published_hash(seed: u64, locations: u64) -> Result<u64, String> {
+    let mut random = Random::new(seed);
+    let mut tried = 0;
+    let given = settings(1, P, 0, 1, 1);
+    let mut driver = set_up(given)?;
+    for case in 0..locations {
+        let location = published::location(&mut random, case);
+        let hash = published::checked(location)?;
+        is("hash", driver::hash(1, location), hash)?;
+        if hash == 0 {
+            continue;
+        }
+        is("setup", driver.setup(given), 0)?;
+        refer_all(&mut driver, &[location, 0])?;
+        is(&format!("hash of {location:x}"), driver.word(5), hash)?;
+        tried += 1;
+    }
+    Ok(tried)
+}
+
+type Case = (char, fn() -> Result<(), String>);
+
+pub fn bench() -> Result<usize, String> {
+    let cases: [Case; 12] = [
+        ('a', a),
+        ('b', b),
+        ('c', c),
+        ('d', d),
+        ('e', e),
+        ('f', f),
+        ('g', g),
+        ('h', h),
+        ('i', i),
+        ('j', j),
+        ('k', k),
+        ('l', l),
+    ];
+    for (name, case) in cases {
+        case().map_err(|error| format!("case {name}: {error}"))?;
+    }
+    Ok(cases.len())
+}

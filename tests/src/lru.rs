@@ -1,0 +1,48 @@
+//! An exact LRU cache, simulated one size at a time. It shares nothing with the model and knows nothing of sampling.
+
+use std::collections::{BTreeMap, HashMap};
+
+struct Cache {
+    size: usize,
+    clock: u64,
+    last_use: HashMap<u64, u64>,
+    by_use: BTreeMap<u64, u64>,
+}
+
+impl Cache {
+    fn new(size: usize) -> Cache {
+        Cache {
+            size,
+            clock: 0,
+            last_use: HashMap::new(),
+            by_use: BTreeMap::new(),
+        }
+    }
+
+    /// Whether the block was there.
+    fn touch(&mut self, block: u64) -> bool {
+        self.clock += 1;
+        let before = self.last_use.insert(block, self.clock);
+        if let Some(time) = before {
+            self.by_use.remove(&time);
+        }
+        self.by_use.insert(self.clock, block);
+        if self.by_use.len() > self.size {
+            let (_, oldest) = self.by_use.pop_first().expect("the cache holds a block");
+            self.last_use.remove(&oldest);
+        }
+        before.is_some()
+    }
+}
+
+/// How many references of the trace a cache of this many blocks misses.
+pub fn misses(trace: &[u64], size: usize) -> u64 {
+    let mut cache = Cache::new(size);
+    let mut missed = 0;
+    for block in trace {
+        if !cache.touch(*block) {
+            missed += 1;
+        }
+    }
+    missed
+}

@@ -1,0 +1,128 @@
+//! Tests from outside: the program `curve` and the static library of the crate `driver` against a naive model of document 01, an exact
+//! LRU simulator and published MurmurHash3 code. `tests/run` builds and runs them.
+//!
+//! usage: outside [SEED]
+
+mod calls;
+mod cases;
+mod driver;
+mod lru;
+mod model;
+mod program;
+mod published;
+mod random;
+mod runs;
+mod tally;
+mod traces;
+
+use model::{Model, Wrong, ALL_WRONG};
+use tally::Tally;
+
+const DAMAGED_CALLS: u64 = 1_000_000;
+const LONG_INPUT: usize = 20_000_000;
+
+fn library(seed: u64) -> Result<(), String> {
+    let model = Model::right();
+    let mut tally = Tally::default();
+    calls::damaged(&model, seed, DAMAGED_CALLS, &mut tally)?;
+    println!("damaged records and tables: {} calls agree", tally.calls);
+    tally.require(calls::WANTED)?;
+    let mut tally = Tally::default();
+    let lowerings = runs::clean(&model, seed, false, &mut tally)?;
+    println!(
+        "clean runs: {} calls agree, with {lowerings} lowerings",
+        tally.calls
+    );
+    if lowerings < 1000 {
+        return Err("the clean runs lowered the threshold too seldom".to_string());
+    }
+    Ok(())
+}
+
+fn program(seed: u64) -> Result<(), String> {
+    let model = Model::right();
+    let mut tally = Tally::default();
+    traces::random_inputs(&model, seed, 1500, &mut tally)?;
+    println!("program: {} random inputs agree", tally.calls);
+    tally.require(traces::WANTED)?;
+    traces::pipes(&model, seed, LONG_INPUT)?;
+    println!("program: {LONG_INPUT} bytes, small pieces, cut events and empty input agree");
+    let points = traces::full_rate(seed, 150)?;
+    println!("program: {points} points of full-rate curves agree with an LRU simulator");
+    let hashes = traces::published_hash(seed, 400)?;
+    println!("program: {hashes} hashes agree with published MurmurHash3 code");
+    let hashes = cases::published_hash(seed, 20_000)?;
+    println!("library: {hashes} hashes agree with published MurmurHash3 code");
+    program::failed_read()?;
+    println!("program: a read that fails is no end of the input");
+    let cases = cases::bench()?;
+    println!("bench table: {cases} cases agree");
+    Ok(())
+}
+
+/// The tests that go by the model, smaller: those that notice that it differs.
+fn noticed_by(model: &Model, seed: u64) -> Vec<&'static str> {
+    let mut tally = Tally::default();
+    let tests = [
+        (
+            "damaged calls",
+            calls::damaged(model, seed, 60_000, &mut tally),
+        ),
+        (
+            "clean runs",
+            runs::clean(model, seed, true, &mut tally).map(|_| ()),
+        ),
+        (
+            "random inputs",
+            traces::random_inputs(model, seed, 300, &mut tally),
+        ),
+    ];
+    let noticing = tests.iter().filter(|(_, result)| result.is_err());
+    noticing.map(|(name, _)| *name).collect()
+}
+
+/// Each wrong model must be noticed, and the right one must not be.
+fn wrong_models(seed: u64) -> Result<(), String> {
+    let against_right = noticed_by(&Model::right(), seed);
+    if !against_right.is_empty() {
+        return Err(format!("the right model is refused by {against_right:?}"));
+    }
+    let mut unnoticed: Vec<Wrong> = Vec::new();
+    for wrong in ALL_WRONG {
+        let noticing = noticed_by(&Model::with(wrong), seed);
+        if noticing.is_empty() {
+            unnoticed.push(wrong);
+        }
+        println!("  {wrong:?}: noticed by {}", noticing.join(", "));
+    }
+    let noticed = ALL_WRONG.len() - unnoticed.len();
+    println!("wrong models: {noticed} of {} noticed", ALL_WRONG.len());
+    if unnoticed.is_empty() {
+        Ok(())
+    } else {
+        Err(format!("unnoticed: {unnoticed:?}"))
+    }
+}
+
+fn all(seed: u64) -> Result<(), String> {
+    library(seed)?;
+    program(seed)?;
+    wrong_models(seed)
+}
+
+fn main() {
+    let given = std::env::args().nth(1);
+    let seed = match given.as_deref().map(str::parse) {
+        None => 20_260_401,
+        Some(Ok(seed)) => seed,
+        Some(Err(_)) => {
+            eprintln!("usage: outside [SEED]");
+            std::process::exit(2);
+        }
+    };
+    println!("seed {seed}");
+    if let Err(error) = all(seed) {
+        println!("FAILED: {error}");
+        std::process::exit(1);
+    }
+}

@@ -1,0 +1,812 @@
+//! Document 01 in plain Rust, naive, from its text alone. It shares no code and no data structure with the proved crates: numbers are
+//! wide, lists are built anew at each step, and nothing is kept that the text does not name.
+//!
+//! A model may hold one error on purpose (`Wrong`). The tests must notice each.
+
+use std::fmt::Write;
+
+pub const P: u64 = 16_777_216;
+pub const MOST_REFERENCES: u64 = 4_294_967_295;
+
+/// Errors that look right, and programs that the promises are to show out.
+#[derive(Clone, Copy, Debug, PartialEq, Eq)]
+pub enum Wrong {
+    // document 01, "Errors that look right"
+    PlaceFromOne,
+    OneEntryRemoved,
+    NotAboveThreshold,
+    EveryBucketRescaled,
+    FirstAfterLowering,
+    // document 01, "What the promises decide"
+    RefusesEverything,
+    SkipsEverything,
+    SamePointAlways,
+    ListUntouched,
+    FeignsAfterFirst,
+    InventsReferences,
+    InventsSampled,
+    InventsLive,
+    // further readings that document 01 shuts out
+    LastOccurrence,
+    BothOccurrences,
+    ThresholdMayRise,
+    NewLocationStays,
+    PointStores,
+    TotalWithoutFar,
+    BelievedShapeUnread,
+    PointOfB,
+    SkippedNeverFull,
+    BucketJudgedAfter,
+    SumUnjudged,
+    ZeroBucketThreshold,
+    LocationsCleared,
+    RestartJudgesNothing,
+    SpanOfNothingCounts,
+    SpanCountsEachBlock,
+    SetupRefusedClears,
+    RefusalAtNextEvent,
+    BucketsBeforeStale,
+    HashCut,
+}
+
+pub const ALL_WRONG: [Wrong; 33] = [
+    Wrong::PlaceFromOne,
+    Wrong::OneEntryRemoved,
+    Wrong::NotAboveThreshold,
+    Wrong::EveryBucketRescaled,
+    Wrong::FirstAfterLowering,
+    Wrong::RefusesEverything,
+    Wrong::SkipsEverything,
+    Wrong::SamePointAlways,
+    Wrong::ListUntouched,
+    Wrong::FeignsAfterFirst,
+    Wrong::InventsReferences,
+    Wrong::InventsSampled,
+    Wrong::InventsLive,
+    Wrong::LastOccurrence,
+    Wrong::BothOccurrences,
+    Wrong::ThresholdMayRise,
+    Wrong::NewLocationStays,
+    Wrong::PointStores,
+    Wrong::TotalWithoutFar,
+    Wrong::BelievedShapeUnread,
+    Wrong::PointOfB,
+    Wrong::SkippedNeverFull,
+    Wrong::BucketJudgedAfter,
+    Wrong::SumUnjudged,
+    Wrong::ZeroBucketThreshold,
+    Wrong::LocationsCleared,
+    Wrong::RestartJudgesNothing,
+    Wrong::SpanOfNothingCounts,
+    Wrong::SpanCountsEachBlock,
+    Wrong::SetupRefusedClears,
+    Wrong::RefusalAtNextEvent,
+    Wrong::BucketsBeforeStale,
+    Wrong::HashCut,
+];
+
+/// Why a call is refused. Torn stands in three variants, so that the tests can count each cause.
+#[derive(Clone, Copy, Debug, PartialEq, Eq, PartialOrd, Ord)]
+pub enum Refusal {
+    Settings,
+    Tables,
+    TornRecord,
+    TornBucket,
+    TornSum,
+    Full,
+    Stale,
+    Point,
+    Short,
+    Kind,
+    Empty,
+}
+
+impl Refusal {
+    pub fn number(self) -> u64 {
+        match self {
+            Refusal::Settings => 1,
+            Refusal::Tables => 2,
+            Refusal::TornRecord | Refusal::TornBucket | Refusal::TornSum => 3,
+            Refusal::Full => 4,
+            Refusal::Stale => 5,
+            Refusal::Point => 6,
+            Refusal::Short => 7,
+            Refusal::Kind => 8,
+            Refusal::Empty => 9,
+        }
+    }
+}
+
+#[derive(Clone, Copy, Debug, PartialEq, Eq)]
+pub struct Settings {
+    pub limit: u64,
+    pub start: u64,
+    pub width: u64,
+    pub buckets: u64,
+    pub kind: u64,
+}
+
+#[derive(Clone, Copy, Debug, PartialEq, Eq)]
+pub struct Record {
+    pub settings: Settings,
+    pub threshold: u64,
+    pub live: u64,
+    pub references: u64,
+    pub sampled: u64,
+}
+
+/// A record with its lent tables.
+#[derive(Clone, Debug, PartialEq, Eq)]
+pub struct Tracker {
+    pub record: Record,
+    pub locations: Vec<u64>,
+    pub counts: Vec<u64>,
+    pub thresholds: Vec<u32>,
+}
+
+#[derive(Clone, Copy, Debug, PartialEq, Eq)]
+pub enum Reply {
+    Skipped,
+    Again(u64),
+    First,
+}
+
+#[derive(Clone, Copy, Debug, PartialEq, Eq)]
+pub struct Point {
+    pub size: u64,
+    pub hits: u64,
+    pub misses: u64,
+    pub total: u64,
+}
+
+#[derive(Clone, Copy, Debug, PartialEq, Eq)]
+pub struct Shape {
+    pub buckets: u64,
+    pub width: u64,
+}
+
+#[derive(Clone, Copy, Debug, PartialEq, Eq)]
+pub enum Event {
+    Location(u64),
+    Span(u64, u32),
+    Restart,
+    Setup(u32, u32, u32, u32, u8),
+}
+
+#[derive(Clone, Copy, Debug)]
+pub struct Model {
+    pub wrong: Option<Wrong>,
+}
+
+/// Settings: defaults and ranges.
+impl Settings {
+    pub fn with_defaults(self) -> Settings {
+        let or = |setting: u64, default: u64| if setting == 0 { default } else { setting };
+        Settings {
+            limit: or(self.limit, 1024),
+            start: or(self.start, 1_677_721),
+            width: or(self.width, 1),
+            buckets: or(self.buckets, 256),
+            kind: self.kind,
+        }
+    }
+
+    pub fn in_range(self) -> bool {
+        (1..=8192).contains(&self.limit)
+            && (1..=P).contains(&self.start)
+            && (1..=MOST_REFERENCES).contains(&self.width)
+            && (1..=10_000).contains(&self.buckets)
+            && self.kind <= 1
+    }
+}
+
+impl Record {
+    pub fn torn(self) -> bool {
+        !self.settings.in_range()
+            || self.live > self.settings.limit
+            || self.threshold > self.settings.start
+            || self.sampled > self.references
+            || self.references > MOST_REFERENCES
+    }
+}
+
+fn scaled(count: u64, threshold: u64, bucket_threshold: u64) -> u64 {
+    let product = u128::from(count) * u128::from(threshold);
+    match bucket_threshold {
+        0 => 0,
+        b => (product / u128::from(b)) as u64,
+    }
+}
+
+impl Tracker {
+    fn buckets_long_enough(&self, settings: Settings) -> bool {
+        let needed = settings.buckets + 2;
+        self.counts.len() as u64 >= needed && self.thresholds.len() as u64 >= needed
+    }
+
+    fn long_enough(&self, settings: Settings) -> bool {
+        self.locations.len() as u64 >= settings.limit && self.buckets_long_enough(settings)
+    }
+
+    fn live_list(&self) -> Vec<u64> {
+        self.locations[..self.record.live as usize].to_vec()
+    }
+
+    fn put_live_list(&mut self, list: &[u64]) {
+        for (place, location) in list.iter().enumerate() {
+            self.locations[place] = *location;
+        }
+        self.record.live = list.len() as u64;
+    }
+
+    fn needed(&self) -> usize {
+        self.record.settings.buckets as usize + 2
+    }
+}
+
+impl Model {
+    pub fn right() -> Model {
+        Model { wrong: None }
+    }
+
+    pub fn with(wrong: Wrong) -> Model {
+        Model { wrong: Some(wrong) }
+    }
+
+    fn is(&self, wrong: Wrong) -> bool {
+        self.wrong == Some(wrong)
+    }
+
+    /// A model that refuses everything ends its calls here.
+    fn unless_all_refused(&self, refusal: Refusal) -> Result<(), Refusal> {
+        if self.is(Wrong::RefusesEverything) {
+            Err(refusal)
+        } else {
+            Ok(())
+        }
+    }
+
+    pub fn hash(&self, kind: u64, location: u64) -> u64 {
+        if kind == 0 {
+            return location % P;
+        }
+        let shift_step = |x: u64| x ^ (x >> 33);
+        let times = |x: u64, y: u64| {
+            let wide = u128::from(x) * u128::from(y);
+            if self.is(Wrong::HashCut) {
+                (wide % ((1 << 64) - 1)) as u64
+            } else {
+                (wide % (1 << 64)) as u64
+            }
+        };
+        let mut x = shift_step(location);
+        x = times(x, 0xff51afd7ed558ccd);
+        x = shift_step(x);
+        x = times(x, 0xc4ceb9fe1a85ec53);
+        x = shift_step(x);
+        x % P
+    }
+
+    fn fresh(&self, settings: Settings, tracker: &mut Tracker) {
+        tracker.record = Record {
+            settings,
+            threshold: settings.start,
+            live: 0,
+            references: 0,
+            sampled: 0,
+        };
+        for bucket in 0..tracker.needed() {
+            tracker.counts[bucket] = 0;
+            tracker.thresholds[bucket] = settings.start as u32;
+        }
+        if self.is(Wrong::LocationsCleared) {
+            tracker.locations.fill(0);
+        }
+    }
+
+    pub fn setup(&self, given: Settings, tracker: &mut Tracker) -> Result<(), Refusal> {
+        let settings = given.with_defaults();
+        self.unless_all_refused(Refusal::Settings)?;
+        if !settings.in_range() {
+            if self.is(Wrong::SetupRefusedClears) {
+                tracker.record.live = 0;
+            }
+            return Err(Refusal::Settings);
+        }
+        if !tracker.long_enough(settings) {
+            return Err(Refusal::Tables);
+        }
+        self.fresh(settings, tracker);
+        Ok(())
+    }
+
+    pub fn restart(&self, tracker: &mut Tracker) -> Result<(), Refusal> {
+        self.unless_all_refused(Refusal::TornRecord)?;
+        let record = tracker.record;
+        let judged = !self.is(Wrong::RestartJudgesNothing) || !record.settings.in_range();
+        if judged && record.torn() {
+            return Err(Refusal::TornRecord);
+        }
+        if !tracker.long_enough(record.settings) {
+            return Err(Refusal::Tables);
+        }
+        self.fresh(record.settings, tracker);
+        Ok(())
+    }
+
+    /// Whether a bucket is fit to be recorded in or reported.
+    fn bucket_fits(&self, tracker: &Tracker, bucket: usize, references: u64) -> bool {
+        let threshold = u64::from(tracker.thresholds[bucket]);
+        let zero = threshold == 0 && !self.is(Wrong::ZeroBucketThreshold);
+        !zero
+            && threshold >= tracker.record.threshold
+            && threshold <= P
+            && u128::from(tracker.counts[bucket]) <= 256 * u128::from(references)
+    }
+
+    fn record_in(&self, tracker: &mut Tracker, bucket: usize) {
+        let threshold = tracker.record.threshold;
+        let old = u64::from(tracker.thresholds[bucket]);
+        tracker.counts[bucket] = scaled(tracker.counts[bucket], threshold, old) + 256;
+        tracker.thresholds[bucket] = threshold as u32;
+    }
+
+    fn place_of(&self, list: &[u64], location: u64) -> Option<usize> {
+        let mut found = None;
+        for (place, other) in list.iter().enumerate() {
+            if *other == location && (found.is_none() || self.is(Wrong::LastOccurrence)) {
+                found = Some(place);
+            }
+        }
+        found
+    }
+
+    fn bucket_of(&self, record: Record, place: u64) -> usize {
+        let distance = u128::from(place) * u128::from(P) / u128::from(record.threshold);
+        let bucket = distance / u128::from(record.settings.width);
+        let far = u128::from(record.settings.buckets);
+        bucket.min(far) as usize
+    }
+
+    pub fn refer(&self, tracker: &mut Tracker, location: u64) -> Result<Reply, Refusal> {
+        self.unless_all_refused(Refusal::TornRecord)?;
+        let record = tracker.record;
+        self.judge_reference(tracker, location)?;
+        let hash = self.hash(record.settings.kind, location);
+        if !self.samples(record, hash) {
+            tracker.record.references += 1;
+            return Ok(Reply::Skipped);
+        }
+        let list = tracker.live_list();
+        let found = self.place_of(&list, location);
+        let bucket = match found {
+            Some(place) => {
+                let counted = place as u64 + u64::from(self.is(Wrong::PlaceFromOne));
+                self.bucket_of(record, counted)
+            }
+            None => record.settings.buckets as usize + 1,
+        };
+        let judged_by = record.references + u64::from(self.is(Wrong::BucketJudgedAfter));
+        if !self.bucket_fits(tracker, bucket, judged_by) {
+            return Err(Refusal::TornBucket);
+        }
+        tracker.record.references += 1 + u64::from(self.is(Wrong::InventsReferences));
+        tracker.record.sampled += 1 + u64::from(self.is(Wrong::InventsSampled));
+        match found {
+            Some(place) => Ok(self.again(tracker, location, list, place, bucket)),
+            None => Ok(self.first(tracker, location, list, bucket)),
+        }
+    }
+
+    fn judge_reference(&self, tracker: &Tracker, location: u64) -> Result<(), Refusal> {
+        let record = tracker.record;
+        if record.torn() {
+            return Err(Refusal::TornRecord);
+        }
+        if !tracker.long_enough(record.settings) {
+            return Err(Refusal::Tables);
+        }
+        let skipped = self.hash(record.settings.kind, location) >= record.threshold;
+        let spared = self.is(Wrong::SkippedNeverFull) && skipped;
+        if record.references == MOST_REFERENCES && !spared {
+            return Err(Refusal::Full);
+        }
+        Ok(())
+    }
+
+    fn samples(&self, record: Record, hash: u64) -> bool {
+        if self.is(Wrong::SkipsEverything) {
+            return false;
+        }
+        if self.is(Wrong::FeignsAfterFirst) && record.references > 0 {
+            return false;
+        }
+        let threshold = record.threshold;
+        hash < threshold
+            || (self.is(Wrong::NotAboveThreshold) && hash == threshold && threshold > 0)
+    }
+
+    fn again(
+        &self,
+        tracker: &mut Tracker,
+        location: u64,
+        list: Vec<u64>,
+        place: usize,
+        bucket: usize,
+    ) -> Reply {
+        self.record_in(tracker, bucket);
+        let mut moved = vec![location];
+        for (at, other) in list.iter().enumerate() {
+            let leaves = at == place || (self.is(Wrong::BothOccurrences) && *other == location);
+            if !leaves {
+                moved.push(*other);
+            }
+        }
+        if !self.is(Wrong::ListUntouched) {
+            tracker.put_live_list(&moved);
+        }
+        Reply::Again(place as u64 + u64::from(self.is(Wrong::PlaceFromOne)))
+    }
+
+    fn first(&self, tracker: &mut Tracker, location: u64, list: Vec<u64>, bucket: usize) -> Reply {
+        if !self.is(Wrong::FirstAfterLowering) {
+            self.record_in(tracker, bucket);
+        }
+        let mut grown = vec![location];
+        grown.extend(list);
+        if grown.len() as u64 > tracker.record.settings.limit {
+            grown = self.lowered(tracker, grown);
+        }
+        if self.is(Wrong::FirstAfterLowering) {
+            self.record_in(tracker, bucket);
+        }
+        if !self.is(Wrong::ListUntouched) {
+            tracker.put_live_list(&grown);
+        }
+        if self.is(Wrong::InventsLive) {
+            tracker.record.live = tracker.record.settings.limit;
+        }
+        Reply::First
+    }
+
+    /// The list after a lowering; the threshold is lowered in the record.
+    fn lowered(&self, tracker: &mut Tracker, list: Vec<u64>) -> Vec<u64> {
+        let kind = tracker.record.settings.kind;
+        let hashes: Vec<u64> = list.iter().map(|l| self.hash(kind, *l)).collect();
+        let largest = *hashes.iter().max().expect("the list is not empty");
+        let old = tracker.record.threshold;
+        let lower = if self.is(Wrong::ThresholdMayRise) {
+            largest.min(tracker.record.settings.start)
+        } else {
+            old.min(largest)
+        };
+        tracker.record.threshold = lower;
+        if self.is(Wrong::EveryBucketRescaled) {
+            for bucket in 0..tracker.needed() {
+                let held = u64::from(tracker.thresholds[bucket]);
+                tracker.counts[bucket] = scaled(tracker.counts[bucket], lower, held);
+                tracker.thresholds[bucket] = lower as u32;
+            }
+        }
+        let mut kept = Vec::new();
+        let mut gone = false;
+        for (place, location) in list.iter().enumerate() {
+            let spared = (self.is(Wrong::OneEntryRemoved) && gone)
+                || (self.is(Wrong::NewLocationStays) && place == 0);
+            if hashes[place] < lower || spared {
+                kept.push(*location);
+            } else {
+                gone = true;
+            }
+        }
+        kept.truncate(tracker.record.settings.limit as usize);
+        kept
+    }
+
+    pub fn point(
+        &self,
+        tracker: &mut Tracker,
+        believed: Shape,
+        number: u64,
+    ) -> Result<Point, Refusal> {
+        self.unless_all_refused(Refusal::TornRecord)?;
+        let record = tracker.record;
+        let settings = record.settings;
+        self.judge_point(tracker, believed, number)?;
+        let mut rescaled = Vec::new();
+        for bucket in 0..tracker.needed() {
+            let held = u64::from(tracker.thresholds[bucket]);
+            rescaled.push(scaled(tracker.counts[bucket], record.threshold, held));
+        }
+        if self.is(Wrong::PointStores) {
+            for (bucket, count) in rescaled.iter().enumerate() {
+                tracker.counts[bucket] = *count;
+                tracker.thresholds[bucket] = record.threshold as u32;
+            }
+        }
+        let mut total: u64 = rescaled.iter().sum();
+        if self.is(Wrong::TotalWithoutFar) {
+            total -= rescaled[settings.buckets as usize];
+        }
+        if total == 0 {
+            return Err(Refusal::Empty);
+        }
+        let asked = if self.is(Wrong::SamePointAlways) {
+            0
+        } else {
+            number
+        };
+        let hits: u64 = rescaled[..asked as usize].iter().sum();
+        Ok(Point {
+            size: number * settings.width,
+            hits,
+            misses: total.saturating_sub(hits),
+            total,
+        })
+    }
+
+    fn judge_point(&self, tracker: &Tracker, believed: Shape, number: u64) -> Result<(), Refusal> {
+        let record = tracker.record;
+        let settings = record.settings;
+        if record.torn() {
+            return Err(Refusal::TornRecord);
+        }
+        if !tracker.buckets_long_enough(settings) {
+            return Err(Refusal::Tables);
+        }
+        if self.is(Wrong::BucketsBeforeStale) {
+            self.judge_buckets(tracker)?;
+        }
+        let real = Shape {
+            buckets: settings.buckets,
+            width: settings.width,
+        };
+        if believed != real && !self.is(Wrong::BelievedShapeUnread) {
+            return Err(Refusal::Stale);
+        }
+        let beyond = settings.buckets + u64::from(!self.is(Wrong::PointOfB));
+        if number >= beyond {
+            return Err(Refusal::Point);
+        }
+        self.judge_buckets(tracker)
+    }
+
+    fn judge_buckets(&self, tracker: &Tracker) -> Result<(), Refusal> {
+        let references = tracker.record.references;
+        let mut sum: u128 = 0;
+        for bucket in 0..tracker.needed() {
+            if !self.bucket_fits(tracker, bucket, references) {
+                return Err(Refusal::TornBucket);
+            }
+            sum += u128::from(tracker.counts[bucket]);
+        }
+        if sum > 256 * u128::from(references) && !self.is(Wrong::SumUnjudged) {
+            return Err(Refusal::TornSum);
+        }
+        Ok(())
+    }
+
+    pub fn plot(
+        &self,
+        tracker: &mut Tracker,
+        believed: Shape,
+        number: u64,
+    ) -> Result<(f64, f64), Refusal> {
+        let point = self.point(tracker, believed, number)?;
+        Ok((nearest(point.size, 1), nearest(point.misses, point.total)))
+    }
+}
+
+/// The double nearest to a quotient of numbers below 2^53, ties to even, by whole numbers alone.
+pub fn nearest(above: u64, below: u64) -> f64 {
+    if above == 0 {
+        return 0.0;
+    }
+    let mut exponent: i32 = 0;
+    let (mut a, mut b) = (u128::from(above), u128::from(below));
+    while a / b >= 1 << 53 {
+        b *= 2;
+        exponent += 1;
+    }
+    while a / b < 1 << 52 {
+        a *= 2;
+        exponent -= 1;
+    }
+    let (mut mantissa, rest) = (a / b, a % b);
+    if rest * 2 > b || (rest * 2 == b && mantissa % 2 == 1) {
+        mantissa += 1;
+    }
+    let mut value = mantissa as f64;
+    while exponent < 0 {
+        value /= 2.0;
+        exponent += 1;
+    }
+    while exponent > 0 {
+        value *= 2.0;
+        exponent -= 1;
+    }
+    value
+}
+
+/// Trace events.
+impl Event {
+    pub fn bytes(self) -> Vec<u8> {
+        let mut bytes = Vec::new();
+        match self {
+            Event::Location(location) => {
+                bytes.push(1);
+                bytes.extend(location.to_le_bytes());
+            }
+            Event::Span(offset, length) => {
+                bytes.push(2);
+                bytes.extend(offset.to_le_bytes());
+                bytes.extend(length.to_le_bytes());
+            }
+            Event::Restart => bytes.push(3),
+            Event::Setup(limit, start, width, buckets, kind) => {
+                bytes.push(4);
+                for number in [limit, start, width, buckets] {
+                    bytes.extend(number.to_le_bytes());
+                }
+                bytes.push(kind);
+            }
+        }
+        bytes
+    }
+}
+
+/// The number that bytes hold, the lowest first.
+fn number(bytes: &[u8]) -> u64 {
+    let mut value = 0;
+    for byte in bytes.iter().rev() {
+        value = value * 256 + u64::from(*byte);
+    }
+    value
+}
+
+fn small(bytes: &[u8]) -> u32 {
+    number(bytes) as u32
+}
+
+impl Model {
+    pub fn read(&self, bytes: &[u8]) -> Result<(Event, usize), Refusal> {
+        if bytes.is_empty() {
+            return Err(Refusal::Short);
+        }
+        let length = match bytes[0] {
+            1 => 9,
+            2 => 13,
+            3 => 1,
+            4 => 18,
+            _ => return Err(Refusal::Kind),
+        };
+        self.unless_all_refused(Refusal::Short)?;
+        if bytes.len() < length {
+            return Err(Refusal::Short);
+        }
+        let body = &bytes[1..length];
+        let event = match bytes[0] {
+            1 => Event::Location(number(body)),
+            2 => Event::Span(number(&body[..8]), small(&body[8..])),
+            3 => Event::Restart,
+            _ => Event::Setup(
+                small(&body[..4]),
+                small(&body[4..8]),
+                small(&body[8..12]),
+                small(&body[12..16]),
+                body[16],
+            ),
+        };
+        Ok((event, length))
+    }
+
+    pub fn write(&self, event: Event, buffer: &mut [u8]) -> Result<usize, Refusal> {
+        self.unless_all_refused(Refusal::Tables)?;
+        let bytes = event.bytes();
+        if buffer.len() < bytes.len() {
+            return Err(Refusal::Tables);
+        }
+        for (place, byte) in bytes.iter().enumerate() {
+            buffer[place] = *byte;
+        }
+        Ok(bytes.len())
+    }
+
+    pub fn apply(&self, tracker: &mut Tracker, event: Event) -> Result<(), Refusal> {
+        match event {
+            Event::Location(location) => self.refer(tracker, location).map(|_| ()),
+            Event::Span(_, 0) if !self.is(Wrong::SpanOfNothingCounts) => Ok(()),
+            Event::Span(offset, length) => {
+                let block = offset / 4096;
+                self.refer(tracker, block)?;
+                if self.is(Wrong::SpanCountsEachBlock) && length > 4096 {
+                    self.refer(tracker, block + 1)?;
+                }
+                Ok(())
+            }
+            Event::Restart => self.restart(tracker),
+            Event::Setup(limit, start, width, buckets, kind) => {
+                let given = Settings {
+                    limit: limit.into(),
+                    start: start.into(),
+                    width: width.into(),
+                    buckets: buckets.into(),
+                    kind: kind.into(),
+                };
+                self.setup(given, tracker)
+            }
+        }
+    }
+
+    /// What the curve program prints.
+    pub fn program(&self, input: &[u8]) -> String {
+        let given = Settings {
+            limit: 0,
+            start: 0,
+            width: 0,
+            buckets: 0,
+            kind: 1,
+        };
+        let mut tracker = Tracker {
+            record: Record {
+                settings: given,
+                threshold: 0,
+                live: 0,
+                references: 0,
+                sampled: 0,
+            },
+            locations: vec![0; 1024],
+            counts: vec![0; 1026],
+            thresholds: vec![0; 1026],
+        };
+        if let Err(refusal) = self.setup(given, &mut tracker) {
+            return format!("refused {} at 0\n", refusal.number());
+        }
+        let mut at = 0;
+        while at < input.len() {
+            let mut taken = 0;
+            let answer = self.read(&input[at..]).and_then(|(event, length)| {
+                taken = length;
+                self.apply(&mut tracker, event)
+            });
+            if let Err(refusal) = answer {
+                if self.is(Wrong::RefusalAtNextEvent) {
+                    at += taken;
+                }
+                return format!("refused {} at {}\n", refusal.number(), at);
+            }
+            at += taken;
+        }
+        self.printed(&mut tracker)
+    }
+
+    fn printed(&self, tracker: &mut Tracker) -> String {
+        let record = tracker.record;
+        let mut text = format!(
+            "curve refs {} sampled {} threshold {} live {}\n",
+            record.references, record.sampled, record.threshold, record.live
+        );
+        let shape = Shape {
+            buckets: record.settings.buckets,
+            width: record.settings.width,
+        };
+        for number in 0..=shape.buckets {
+            match self.point(tracker, shape, number) {
+                Ok(point) => {
+                    let line = writeln!(text, "{} {} {}", point.size, point.misses, point.total);
+                    line.expect("a string takes what is written");
+                }
+                Err(Refusal::Empty) => {
+                    text.push_str("empty\n");
+                    return text;
+                }
+                Err(refusal) => {
+                    text.push_str(&format!("point {number} refused {}\n", refusal.number()));
+                    return text;
+                }
+            }
+        }
+        text.push_str("end\n");
+        text
+    }
+}

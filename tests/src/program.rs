@@ -1,0 +1,84 @@
+//! The curve program, run on bytes.
+
+use std::fs::File;
+use std::io::{Read, Write};
+use std::process::{Child, Command, Stdio};
+use std::thread;
+use std::time::Duration;
+
+const CURVE: &str = concat!(env!("CARGO_MANIFEST_DIR"), "/../target/bin/curve");
+
+fn start() -> Result<Child, String> {
+    Command::new(CURVE)
+        .stdin(Stdio::piped())
+        .stdout(Stdio::piped())
+        .stderr(Stdio::piped())
+        .spawn()
+        .map_err(|error| format!("{CURVE}: {error}"))
+}
+
+/// What the program prints, once its input was written by `feed` on a thread of its own.
+fn run(feed: impl FnOnce(&mut dyn Write) + Send) -> Result<String, String> {
+    let mut child = start()?;
+    let mut input = child.stdin.take().expect("standard input is a pipe");
+    let mut output = child.stdout.take().expect("standard output is a pipe");
+    let mut printed = String::new();
+    thread::scope(|scope| {
+        scope.spawn(move || feed(&mut input));
+        output.read_to_string(&mut printed)
+    })
+    .map_err(|error| format!("the program's output: {error}"))?;
+    let end = child
+        .wait_with_output()
+        .map_err(|error| error.to_string())?;
+    if !end.status.success() || !end.stderr.is_empty() {
+        let complaint = String::from_utf8_lossy(&end.stderr).into_owned();
+        return Err(format!(
+            "the program ended with {}: {complaint}",
+            end.status
+        ));
+    }
+    Ok(printed)
+}
+
+/// The input in one piece. A program that refuses an event may stop reading, so that the rest cannot be written.
+pub fn printed(bytes: &[u8]) -> Result<String, String> {
+    run(|input| {
+        let _ = input.write_all(bytes);
+    })
+}
+
+/// The input in pieces of these lengths, with a pause after each.
+pub fn printed_in_pieces(bytes: &[u8], lengths: &[usize]) -> Result<String, String> {
+    run(|input| {
+        let mut rest = bytes;
+        for length in lengths.iter().cycle() {
+            if rest.is_empty() {
+                break;
+            }
+            let (piece, later) = rest.split_at((*length).min(rest.len()));
+            if input.write_all(piece).and_then(|()| input.flush()).is_err() {
+                break;
+            }
+            thread::sleep(Duration::from_micros(60));
+            rest = later;
+        }
+    })
+}
+
+/// A read that fails (here of a folder) is no end of the input: nothing is printed, and standard error says why.
+pub fn failed_read() -> Result<(), String> {
+    let folder = File::open("/").map_err(|error| error.to_string())?;
+    let end = Command::new(CURVE)
+        .stdin(folder)
+        .output()
+        .map_err(|error| format!("{CURVE}: {error}"))?;
+    if end.stdout.is_empty() && !end.stderr.is_empty() {
+        Ok(())
+    } else {
+        let printed = String::from_utf8_lossy(&end.stdout).into_owned();
+        Err(format!(
+            "after a read that failed the program printed '{printed}'"
+        ))
+    }
+}

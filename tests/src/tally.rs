@@ -1,0 +1,43 @@
+//! How often each answer of each function was met.
+
+use std::collections::BTreeMap;
+
+#[derive(Default)]
+pub struct Tally {
+    counts: BTreeMap<(String, String), u64>,
+    pub calls: u64,
+}
+
+impl Tally {
+    pub fn count(&mut self, function: &str, answer: &str) {
+        let key = (function.to_string(), answer.to_string());
+        *self.counts.entry(key).or_insert(0) += 1;
+        self.calls += 1;
+    }
+
+    fn of(&self, function: &str, answer: &str) -> u64 {
+        let key = (function.to_string(), answer.to_string());
+        *self.counts.get(&key).unwrap_or(&0)
+    }
+
+    /// A line for each function, and an error if an answer that must be met was not.
+    pub fn require(&self, wanted: &[(&str, &[&str])]) -> Result<(), String> {
+        let mut missing = Vec::new();
+        for (function, answers) in wanted {
+            let mut line = format!("  {function}:");
+            for answer in *answers {
+                let met = self.of(function, answer);
+                line.push_str(&format!(" {answer} {met}"));
+                if met == 0 {
+                    missing.push(format!("{function} never answered {answer}"));
+                }
+            }
+            println!("{line}");
+        }
+        if missing.is_empty() {
+            Ok(())
+        } else {
+            Err(missing.join("; "))
+        }
+    }
+}

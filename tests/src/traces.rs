@@ -1,0 +1,261 @@
+//! The curve program against the model, the LRU simulator and the published hash.
+
+use crate::calls::some_event;
+use crate::lru;
+use crate::model::*;
+use crate::program::{printed, printed_in_pieces};
+use crate::published;
+use crate::random::Random;
+use crate::tally::Tally;
+
+fn differ(printed: &str, expected: &str) -> String {
+    let first = printed
+        .lines()
+        .zip(expected.lines())
+        .enumerate()
+        .find(|(_, (a, b))| a != b);
+    match first {
+        Some((line, (a, b))) => format!("line {}: printed '{a}', expected '{b}'", line + 1),
+        None => format!(
+            "printed {} lines, expected {}",
+            printed.lines().count(),
+            expected.lines().count()
+        ),
+    }
+}
+
+pub fn same(printed: &str, expected: &str) -> Result<(), String> {
+    if printed == expected {
+        Ok(())
+    } else {
+        Err(differ(printed, expected))
+    }
+}
+
+fn some_setup(random: &mut Random) -> Event {
+    let limit = match random.below(60) {
+        0 => 0,
+        1 => random.between(1020, 1028) as u32,
+        2 => random.between(8190, 8195) as u32,
+        _ => random.between(1, 20) as u32,
+    };
+    let start = match random.below(40) {
+        0 => 0,
+        1 => random.between(P - 1, P + 1) as u32,
+        2 => random.any() as u32,
+        3..=16 => random.between(1, 40) as u32,
+        _ => P as u32,
+    };
+    let width = match random.below(6) {
+        0 => random.any() as u32,
+        1 => 1 << 20,
+        _ => random.below(4) as u32,
+    };
+    let buckets = match random.below(60) {
+        0 => random.between(1023, 1026) as u32,
+        1 => random.between(9_999, 10_002) as u32,
+        2 => 0,
+        _ => random.between(1, 12) as u32,
+    };
+    let kind = if random.one_in(60) {
+        2
+    } else {
+        random.below(2)
+    };
+    Event::Setup(limit, start, width, buckets, kind as u8)
+}
+
+/// An input that is often whole, and at times cut, or with a byte that is no kind.
+fn some_input(random: &mut Random) -> Vec<u8> {
+    let mut bytes = Vec::new();
+    for _ in 0..random.below(60) {
+        let event = match random.below(60) {
+            0 => Event::Restart,
+            1 => some_setup(random),
+            2 if random.one_in(4) => some_event(random),
+            3..=14 => Event::Span(random.below(40) << 11, random.below(3) as u32 * 5000),
+            15..=35 => Event::Location(random.below(20) + P * random.below(3)),
+            _ => Event::Location(random.below(20)),
+        };
+        if bytes.is_empty() {
+            bytes = some_setup(random).bytes();
+        }
+        bytes.extend(event.bytes());
+    }
+    match random.below(8) {
+        0 => bytes.truncate(random.below(bytes.len() as u64 + 1) as usize),
+        1 => bytes.push(random.any() as u8),
+        _ => {}
+    }
+    bytes
+}
+
+/// What the program must have printed, each at least once.
+pub const WANTED: &[(&str, &[&str])] = &[(
+    "program",
+    &[
+        "curve",
+        "empty",
+        "refused 1",
+        "refused 2",
+        "refused 7",
+        "refused 8",
+    ],
+)];
+
+fn sort_of(printed: &str) -> &str {
+    match printed.split_once(" at ") {
+        Some((refused, _)) => refused,
+        None if printed.ends_with("\nempty\n") => "empty",
+        None => "curve",
+    }
+}
+
+/// Random inputs, each printed as the model says.
+pub fn random_inputs(model: &Model, seed: u64, runs: u64, tally: &mut Tally) -> Result<(), String> {
+    for case in 0..runs {
+        let mut random = Random::new(seed ^ (case << 24));
+        let input = some_input(&mut random);
+        let expected = model.program(&input);
+        tally.count("program", sort_of(&expected));
+        same(&printed(&input)?, &expected)
+            .map_err(|error| format!("seed {seed} case {case}: {error}"))?;
+    }
+    Ok(())
+}
+
+/// A long input: references of both kinds with repeats, and a fresh start now and then.
+fn long_input(random: &mut Random, length: usize) -> Vec<u8> {
+    let mut bytes = Event::Setup(0, P as u32, 2000, 1000, 1).bytes();
+    let mut since = 0;
+    while bytes.len() < length {
+        since += 1;
+        let location = match random.below(3) {
+            0 => random.below(2_000),
+            1 => random.below(60_000),
+            _ => random.below(3_000_000),
+        };
+        let event = match random.below(5) {
+            0 => Event::Span(location << 12 | random.below(4096), 512),
+            1 => Event::Span(location << 12, random.below(2) as u32 * 8192),
+            _ => Event::Location(location),
+        };
+        bytes.extend(event.bytes());
+        if since == 400_000 {
+            bytes.extend(Event::Restart.bytes());
+            since = 0;
+        }
+    }
+    bytes
+}
+
+/// 20 MB in one go; then a smaller one in irregular small pieces, whole, cut inside an event, and empty.
+pub fn pipes(model: &Model, seed: u64, length: usize) -> Result<(), String> {
+    let mut random = Random::new(seed);
+    let long = long_input(&mut random, length);
+    same(&printed(&long)?, &model.program(&long))
+        .map_err(|error| format!("seed {seed}, {} bytes: {error}", long.len()))?;
+    for case in 0..6 {
+        let mut input = long_input(&mut random, 6_000 + 40 * case);
+        if case % 2 == 1 {
+            let cut = random.between(1, 8) as usize;
+            input.truncate(input.len() - cut);
+        }
+        let lengths: Vec<usize> = (0..37).map(|_| random.between(1, 23) as usize).collect();
+        same(
+            &printed_in_pieces(&input, &lengths)?,
+            &model.program(&input),
+        )
+        .map_err(|error| format!("seed {seed} pieces {case}: {error}"))?;
+    }
+    for cut in 1..18 {
+        let event = Event::Setup(3, 5, 7, 9, 1).bytes();
+        let input = [Event::Location(9).bytes(), event[..cut].to_vec()].concat();
+        let expected = "refused 7 at 9\n";
+        same(&printed_in_pieces(&input, &[1])?, expected)
+            .map_err(|error| format!("cut after {cut} bytes: {error}"))?;
+        same(&model.program(&input), expected).map_err(|error| format!("model: {error}"))?;
+    }
+    let empty = "curve refs 0 sampled 0 threshold 1677721 live 0\nempty\n";
+    same(&printed(&[])?, empty).map_err(|error| format!("empty input: {error}"))?;
+    same(&model.program(&[]), empty).map_err(|error| format!("model, empty input: {error}"))
+}
+
+/// A trace of at most so many different blocks, with runs, loops and random references.
+fn some_trace(random: &mut Random, blocks: u64) -> Vec<u64> {
+    let base = random.any();
+    let mut trace: Vec<u64> = Vec::new();
+    for _ in 0..random.between(1, 40) {
+        let from = random.below(blocks);
+        let length = random.between(1, 60).min(blocks - from);
+        for turn in 0..random.between(1, 4) {
+            for at in 0..length {
+                let block = match turn {
+                    2 => random.below(blocks),
+                    _ => from + at,
+                };
+                trace.push(base.wrapping_add(block.wrapping_mul(0x1_0000_0001)));
+            }
+        }
+    }
+    trace
+}
+
+/// Full-rate curves that the program prints, point by point against exact LRU caches.
+pub fn full_rate(seed: u64, traces: u64) -> Result<u64, String> {
+    let mut points = 0;
+    for case in 0..traces {
+        let mut random = Random::new(seed ^ (case << 28));
+        let limit = random.between(1, 1024);
+        let trace = some_trace(&mut random, limit);
+        let width = random.between(1, 40) as u32;
+        let buckets = random.between(1, 30) as u32;
+        let kind = random.below(2) as u8;
+        let mut input = Event::Setup(limit as u32, P as u32, width, buckets, kind).bytes();
+        for block in &trace {
+            input.extend(Event::Location(*block).bytes());
+        }
+        let expected = simulated(&trace, width.into(), buckets.into());
+        let text = printed(&input)?;
+        let curve = text.split_once('\n').map_or("", |(_, points)| points);
+        same(curve, &expected).map_err(|error| {
+            format!("seed {seed} trace {case} (S {limit} W {width} B {buckets}): {error}")
+        })?;
+        points += u64::from(buckets) + 1;
+    }
+    Ok(points)
+}
+
+/// The program's points of a full-rate curve, from LRU caches of each size alone.
+fn simulated(trace: &[u64], width: u64, buckets: u64) -> String {
+    let mut text = String::new();
+    let total = 256 * trace.len() as u64;
+    for number in 0..=buckets {
+        let size = number * width;
+        let misses = 256 * lru::misses(trace, size as usize);
+        text.push_str(&format!("{size} {misses} {total}\n"));
+    }
+    text + "end\n"
+}
+
+/// The program prints the published hash of L as the threshold: kind 4 with S 1, T0 P, hash kind 1, then references to L and to 0.
+pub fn published_hash(seed: u64, locations: u64) -> Result<u64, String> {
+    let mut random = Random::new(seed);
+    let mut tried = 0;
+    for case in 0..locations {
+        let location = published::location(&mut random, case);
+        let hash = published::checked(location)?;
+        if hash == 0 {
+            continue;
+        }
+        let mut input = Event::Setup(1, P as u32, 0, 1, 1).bytes();
+        input.extend(Event::Location(location).bytes());
+        input.extend(Event::Location(0).bytes());
+        let first = format!("curve refs 2 sampled 2 threshold {hash} live 1");
+        let text = printed(&input)?;
+        same(text.lines().next().unwrap_or(""), &first)
+            .map_err(|error| format!("seed {seed}, location {location:x}: {error}"))?;
+        tried += 1;
+    }
+    Ok(tried)
+}
