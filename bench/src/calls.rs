@@ -128,17 +128,18 @@ fn references(
 
 fn hash(size: Size) -> Row {
     let count = 4_000_000 / size.scale;
-    let run = |hash: fn(u64, u64) -> u64| {
+    let run = |hash: unsafe extern "C" fn(u64, u64) -> u64| {
         let hash = black_box(hash);
         (0..count as u64).fold(0u64, |sum, x| {
-            sum.wrapping_add(hash(1, x.wrapping_mul(0x9e37_79b9_7f4a_7c15)))
+            // SAFETY: two numbers are handed over.
+            sum.wrapping_add(unsafe { hash(1, x.wrapping_mul(0x9e37_79b9_7f4a_7c15)) })
         })
     };
     compare(
         "hash kind 1",
         size,
         count,
-        || run(proved::hash_of),
+        || run(proved::rockgingham_hash),
         || run(plain::hash_of),
     )
 }
@@ -222,12 +223,14 @@ fn point(size: Size, buckets: u64) -> Row {
     )
 }
 
-/// The plain reading with the library's own shape: words out, a number back.
-#[inline(never)]
-fn plain_read(bytes: &[u8], event: &mut [u64; 7]) -> u64 {
-    match plain::read(bytes) {
+/// The plain reading, called as the library's is: words out, a number back.
+///
+/// # Safety
+/// `event` points to seven words, `bytes` to `length` bytes.
+unsafe extern "C" fn plain_read(event: *mut u64, bytes: *const u8, length: usize) -> u64 {
+    match plain::read(std::slice::from_raw_parts(bytes, length)) {
         Ok((e, taken)) => {
-            *event = proved::event_words(e, taken);
+            *event.cast::<[u64; 7]>() = proved::event_words(e, taken);
             0
         }
         Err(number) => number,
@@ -237,11 +240,13 @@ fn plain_read(bytes: &[u8], event: &mut [u64; 7]) -> u64 {
 fn reading(size: Size) -> Row {
     let count = 1_000_000 / size.scale;
     let bytes = crate::program::trace(count);
-    let run = |read: fn(&[u8], &mut [u64; 7]) -> u64| {
+    let run = |read: unsafe extern "C" fn(*mut u64, *const u8, usize) -> u64| {
         let read = black_box(read);
-        let (mut at, mut sum, mut event) = (0, 0u64, [0; 7]);
+        let (mut at, mut sum, mut event) = (0, 0u64, [0u64; 7]);
         while at < bytes.len() {
-            let number = read(&bytes[at..], &mut event);
+            let left = &bytes[at..];
+            // SAFETY: the bytes come with their own length; the words are seven.
+            let number = unsafe { read(event.as_mut_ptr(), left.as_ptr(), left.len()) };
             sum = sum.wrapping_add(number ^ event[0] ^ event[2] ^ event[3]);
             at += event[1] as usize;
         }
@@ -251,7 +256,7 @@ fn reading(size: Size) -> Row {
         "reading an event",
         size,
         count,
-        || run(proved::read),
+        || run(proved::rockgingham_read),
         || run(plain_read),
     )
 }

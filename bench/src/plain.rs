@@ -65,9 +65,8 @@ fn hash(kind: u64, location: u64) -> u64 {
     x % FULL_RATE
 }
 
-/// The hash, called and not inlined, as the library's is.
-#[inline(never)]
-pub fn hash_of(kind: u64, location: u64) -> u64 {
+/// The hash, called as the library's is.
+pub extern "C" fn hash_of(kind: u64, location: u64) -> u64 {
     hash(kind, location)
 }
 

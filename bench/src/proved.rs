@@ -20,7 +20,7 @@ struct CShape {
 }
 
 extern "C" {
-    fn rockgingham_hash(kind: u64, location: u64) -> u64;
+    pub fn rockgingham_hash(kind: u64, location: u64) -> u64;
     fn rockgingham_setup(
         record: *mut u64,
         settings: CSettings,
@@ -52,12 +52,7 @@ extern "C" {
         thresholds: *const u32,
         thresholds_length: usize,
     ) -> u64;
-    fn rockgingham_read(event: *mut u64, bytes: *const u8, length: usize) -> u64;
-}
-
-pub fn hash_of(kind: u64, location: u64) -> u64 {
-    // SAFETY: two numbers are handed over.
-    unsafe { rockgingham_hash(kind, location) }
+    pub fn rockgingham_read(event: *mut u64, bytes: *const u8, length: usize) -> u64;
 }
 
 /// A record as its words, in the header's order.
@@ -166,13 +161,6 @@ pub fn point(
     } else {
         Err(refusal)
     }
-}
-
-/// The first event of the bytes as words, with how many it took.
-#[inline(always)]
-pub fn read(bytes: &[u8], event: &mut [u64; 7]) -> u64 {
-    // SAFETY: the bytes come with their own length; the words are seven.
-    unsafe { rockgingham_read(event.as_mut_ptr(), bytes.as_ptr(), bytes.len()) }
 }
 
 /// An event as its words, in the header's order.
