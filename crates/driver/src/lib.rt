@@ -9,7 +9,6 @@ use rules::Plotted;
 use rules::Pointed;
 use rules::Reading;
 use rules::Record;
-use rules::Refusal;
 use rules::Settings;
 use rules::Shape;
 use rules::Started;
@@ -105,23 +104,6 @@ pub extern "C" fn rockgingham_hash(kind: u64, location: u64) -> u64
     hash::hash_of(Hashing { kind }, location)
 }
 
-// A refusal's number.
-fn number_of(why: Refusal) -> u64
-    ensures { λ r. ⌜ r ≡ number why ⌝ }
-{
-    match why {
-        Refusal::Settings => 1,
-        Refusal::Tables => 2,
-        Refusal::Torn => 3,
-        Refusal::Full => 4,
-        Refusal::Stale => 5,
-        Refusal::Point => 6,
-        Refusal::Short => 7,
-        Refusal::Kind => 8,
-        Refusal::Empty => 9,
-    }
-}
-
 // A fresh start with these settings.
 #[no_mangle]
 pub extern "C" fn rockgingham_setup(
@@ -138,7 +120,7 @@ pub extern "C" fn rockgingham_setup(
             *words = words_of(k);
             0
         }
-        Started::Refused(why) => number_of(why),
+        Started::Refused(why) => tracker::number_of(why),
     }
 }
 
@@ -157,7 +139,7 @@ pub extern "C" fn rockgingham_restart(
             *words = words_of(k);
             0
         }
-        Started::Refused(why) => number_of(why),
+        Started::Refused(why) => tracker::number_of(why),
     }
 }
 
@@ -191,7 +173,7 @@ pub extern "C" fn rockgingham_refer(
             *answer = [2, 0];
             0
         }
-        Answer::Refused(why) => number_of(why),
+        Answer::Refused(why) => tracker::number_of(why),
     }
 }
 
@@ -213,7 +195,7 @@ pub extern "C" fn rockgingham_point(
             *point = [p.size, p.hits, p.misses, p.total];
             0
         }
-        Pointed::Refused(why) => number_of(why),
+        Pointed::Refused(why) => tracker::number_of(why),
     }
 }
 
@@ -235,7 +217,7 @@ pub extern "C" fn rockgingham_plot(
             *pair = [p.size, p.ratio];
             0
         }
-        Plotted::Refused(why) => number_of(why),
+        Plotted::Refused(why) => tracker::number_of(why),
     }
 }
 
@@ -270,7 +252,7 @@ pub extern "C" fn rockgingham_read(event: &mut [u64; 7], bytes: &[u8]) -> u64
             *event = event_words(e, taken);
             0
         }
-        Reading::Refused(why) => number_of(why),
+        Reading::Refused(why) => tracker::number_of(why),
     }
 }
 
@@ -280,7 +262,7 @@ fn number_written(answer: Written) -> u64
 {
     match answer {
         Written::Filled(_) => 0,
-        Written::Refused(why) => number_of(why),
+        Written::Refused(why) => tracker::number_of(why),
     }
 }
 

@@ -2,6 +2,7 @@
 use Prim.Native.Nat.{ℕ}
 use mathlib.Core.Path.{_≡_, sym, ap, _∙_}
 use mathlib.Core.List.{List}
+use Rattle.rules.specs.declared.Refusal.{Refusal}
 use Rattle.rules.specs.declared.Record.{Record}
 use Rattle.rules.specs.declared.Shape.{Shape}
 use Rattle.rules.specs.declared.Started.{Started}
@@ -11,7 +12,7 @@ use Rattle.rules.specs.declared.Pointed.{Pointed}
 use Rattle.rules.specs.declared.Plotted.{Plotted}
 use Rattle.rules.specs.Settings.{Histogram}
 use Rattle.rules.specs.Reference.{Reply}
-use Rattle.rules.specs.Answers.{saidPointed, saidPlotted}
+use Rattle.rules.specs.Answers.{number, saidPointed, saidPlotted}
 use Rattle.rules.specs.Refusals.{Outcome, Beginning, pointOf, plotOf, afterStarted, afterReferred, afterApplied}
 use Rattle.rules.proofs.Answers.{started-injective, answer-injective, taken-injective, pointed-injective, plotted-injective}
 
@@ -40,3 +41,6 @@ module _ (k : Record) (believed : Shape) (n : ℕ) (g : Histogram) where
 
   pub plot-point-once : (r r' : Plotted) → saidPlotted r ≡ plotOf k believed n g → saidPlotted r' ≡ plotOf k believed n g → r ≡ r'
   plot-point-once r r' p q = plotted-injective r r' (p ∙ sym q)
+
+pub number-of-once : (why : Refusal) (r r' : ℕ) → r ≡ number why → r' ≡ number why → r ≡ r'
+number-of-once why r r' p q = p ∙ sym q

@@ -28,10 +28,27 @@ ghost use Rattle.rules.specs.Lists.{over};
 ghost use Rattle.rules.specs.Settings.{withDefaults, orDefault, outOfRange, needed, tooShort, bucketsTooShort};
 ghost use mathlib.Core.Option.{some, none};
 ghost use Rattle.rules.specs.Reference.{widths, firstPlace, scaledDistance};
-ghost use Rattle.rules.specs.Answers.{saidPointed, saidPlotted};
+ghost use Rattle.rules.specs.Answers.{number, saidPointed, saidPlotted};
 ghost use Rattle.rules.specs.Events.{settingsOf};
 ghost use Rattle.rules.specs.Refusals.{tornRecord, freshBuckets, freshRecord, bucketsOf, tablesOf, held, liveOf, stale, afterStarted, afterReferred, afterApplied, setupOf, restartOf, referOf, pointOf, plotOf, applyOf};
 ghost use Rattle.tracker.specs.Tracker.{referredOf, countedIn, Samples, fromSums, startedOn, takenFrom};
+
+// A refusal's number, for who answers in numbers.
+pub fn number_of(why: Refusal) -> u64
+    ensures { λ r. ⌜ r ≡ number why ⌝ }
+{
+    match why {
+        Refusal::Settings => 1,
+        Refusal::Tables => 2,
+        Refusal::Torn => 3,
+        Refusal::Full => 4,
+        Refusal::Stale => 5,
+        Refusal::Point => 6,
+        Refusal::Short => 7,
+        Refusal::Kind => 8,
+        Refusal::Empty => 9,
+    }
+}
 
 // ---- tests
 
