@@ -1,0 +1,33 @@
+use borrow.Author.Tests.{lt-ltb, le-ltb}
+use borrow.Author.Needs.{needs}
+use Rattle.curve.proofs.put_end.Statement.{statement}
+use Rattle.curve.proofs.put_end.Tie as tie
+
+put-refused-line-requires : tie.Need-put-refused-line-requires
+put-refused-line-requires c κs = search needs
+
+same-length : tie.Need-same-length
+same-length c = search needs
+
+returns : tie.Need-returns
+returns c = rw (lt-ltb 0 _ (c .before .before .before .before .if1 .taken)) (c .before .before .put-refused-line .ensures)
+
+put-curve-requires : tie.Need-put-curve-requires
+put-curve-requires c κs = search needs
+
+same-length-2 : tie.Need-same-length-2
+same-length-2 c = search needs
+
+returns-2 : tie.Need-returns-2
+returns-2 c = rw (le-ltb 0 _ (c .before .before .before .before .if1 .left)) (c .before .before .put-curve .ensures)
+
+pub put-end-spec : {M : Type 1} → statement M
+put-end-spec =
+    tie.close
+    (tie.spec
+    put-refused-line-requires
+    same-length
+    returns
+    put-curve-requires
+    same-length-2
+    returns-2)

@@ -1,0 +1,73 @@
+use Rattle.curve.proofs.Input.{begun, not-begun}
+use borrow.Author.Needs.{needs}
+use Rattle.curve.proofs.run.Statement.{statement}
+use Rattle.curve.proofs.run.Tie as tie
+
+setup-requires : tie.Need-setup-requires
+setup-requires c κs = search needs
+
+enum-known-k : tie.Need-enum-known-k
+enum-known-k c = search needs
+
+follow-requires : tie.Need-follow-requires
+follow-requires c κs = search needs
+
+enum-known-why : tie.Need-enum-known-why
+enum-known-why c = search needs
+
+number-of-requires : tie.Need-number-of-requires
+number-of-requires c κs = search needs
+
+put-refused-line-requires : tie.Need-put-refused-line-requires
+put-refused-line-requires c κs = search needs
+
+same-length : tie.Need-same-length
+same-length c = search needs
+
+same-length-2 : tie.Need-same-length-2
+same-length-2 c = search needs
+
+same-length-3 : tie.Need-same-length-3
+same-length-3 c = search needs
+
+same-length-4 : tie.Need-same-length-4
+same-length-4 c = search needs
+
+returns : tie.Need-returns
+returns c = begun _ _ _ (c .before .before .before .before .before .before .before .before .follow .result) (c .before .before .before .before .before .before .before .before .follow .last .1 .0) (rw (c .before .before .before .before .before .before .before .before .before .before .before .before .before .before .k .given .1) at (c .before .before .before .before .before .before .before .before .before .before .before .before .before .before .before .before .before .before .before .before .setup .ensures)) (c .before .before .before .before .before .before .before .before .follow .ensures)
+
+same-length-5 : tie.Need-same-length-5
+same-length-5 c = search needs
+
+same-length-6 : tie.Need-same-length-6
+same-length-6 c = search needs
+
+same-length-7 : tie.Need-same-length-7
+same-length-7 c = search needs
+
+same-length-8 : tie.Need-same-length-8
+same-length-8 c = search needs
+
+returns-2 : tie.Need-returns-2
+returns-2 c = not-begun _ _ _ (rw (c .before .before .before .before .before .before .why .given .1) at (c .before .before .before .before .before .before .before .before .before .before .before .before .setup .ensures)) (rw (c .before .before .before .number-of .ensures) at (c .before .before .put-refused-line .ensures))
+
+pub run-spec : {M : Type 1} → statement M
+run-spec =
+    tie.close
+    (tie.spec
+    setup-requires
+    enum-known-k
+    follow-requires
+    enum-known-why
+    number-of-requires
+    put-refused-line-requires
+    same-length
+    same-length-2
+    same-length-3
+    same-length-4
+    returns
+    same-length-5
+    same-length-6
+    same-length-7
+    same-length-8
+    returns-2)

@@ -1,0 +1,6 @@
+pub mod Reading
+pub mod Laws
+pub mod Pieces
+pub mod Runs
+pub mod Loop
+pub mod Unique

@@ -1,0 +1,33 @@
+-- Each promise decides the answer and every lent table: any two that it allows coincide. Assumes nothing.
+use Prim.Native.Nat.{ℕ}
+use mathlib.Core.Path.{_≡_, refl, sym, ap, _∙_}
+use mathlib.Core.List.{List}
+use Rattle.rules.specs.Refusals.{Held}
+use Rattle.rules.proofs.Answers.{number-injective}
+use Rattle.feed.specs.declared.Ending.{Ending}
+use Rattle.feed.specs.declared.Ending.the-variants as ending
+use Rattle.feed.specs.declared.Fed.{Fed}
+use Rattle.feed.specs.Feed.{saidEnding, afterFed, feedOf}
+
+ending-injective : (a b : Ending) → saidEnding a ≡ saidEnding b → a ≡ b
+ending-injective ending.Whole ending.Whole e = refl
+ending-injective ending.Inside ending.Inside e = refl
+ending-injective (ending.Refused r) (ending.Refused q) e = ap ending.Refused (number-injective r q (cc))
+ending-injective ending.Whole ending.Inside e = cc
+ending-injective ending.Inside ending.Whole e = cc
+ending-injective ending.Whole (ending.Refused q) e = cc
+ending-injective ending.Inside (ending.Refused q) e = cc
+ending-injective (ending.Refused r) ending.Whole e = cc
+ending-injective (ending.Refused r) ending.Inside e = cc
+
+pub feed-once : (bytes : List ℕ) (s : Held) (a b : Fed) (locationsA countsA thresholdsA locationsB countsB thresholdsB : List ℕ)
+    → afterFed a locationsA countsA thresholdsA ≡ feedOf bytes s → afterFed b locationsB countsB thresholdsB ≡ feedOf bytes s
+    → (a ≡ b) × (locationsA ≡ locationsB) × (countsA ≡ countsB) × (thresholdsA ≡ thresholdsB)
+feed-once bytes s a b locationsA countsA thresholdsA locationsB countsB thresholdsB p q =
+    let k = p ∙ sym q in
+    let same : a .ending ≡ b .ending = ending-injective (a .ending) (b .ending) (ap (λ z. z .said) k) in (
+      (λ i. record { kept = k i .left .kept; taken = k i .taken; ending = same i }),
+      ap (λ z. z .left .tables .locations) k,
+      ap (λ z. z .left .tables .histogram .counts) k,
+      ap (λ z. z .left .tables .histogram .thresholds) k,
+    )

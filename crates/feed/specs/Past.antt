@@ -1,0 +1,55 @@
+-- The history that events stand for, and the events that bytes stand for. Assumes nothing.
+use Prim.Native.Nat.{ℕ}
+use mathlib.Core.Path.{_≡_}
+use mathlib.Core.Bool.{Bool, true, false, _||_}
+use mathlib.Core.List.{List, [], _∷_}
+use lib.ListN.{take, drop}
+use Rattle.rules.specs.declared.Event.{Event}
+use Rattle.rules.specs.declared.Event.the-variants.{Location, Span, Restart, Setup}
+use Rattle.rules.specs.Answers.{gives, Got}
+use Rattle.rules.specs.Events.{readOf, referencesOf}
+use Rattle.rules.specs.Refusals.{Held}
+use Rattle.demands.specs.Runs.{Run}
+use Rattle.feed.specs.Feed.{Feeding}
+
+-- references, oldest first, in front of those before them
+abbrev pub onto : List ℕ → List ℕ → List ℕ
+onto [] past = past
+onto (x ∷ xs) past = onto xs (x ∷ past)
+
+-- the references since the last fresh start, newest first, after one event more
+abbrev pub pastAfter : Event → List ℕ → List ℕ
+pastAfter (Location x) past = onto (referencesOf (Location x)) past
+pastAfter (Span offset length) past = onto (referencesOf (Span offset length)) past
+pastAfter Restart past = []
+pastAfter (Setup b) past = []
+
+-- after more events, in their order
+abbrev pub pastOf : List Event → List ℕ → List ℕ
+pastOf [] past = past
+pastOf (e ∷ es) past = pastOf es (pastAfter e past)
+
+-- an event is a fresh start
+abbrev pub freshStart : Event → Bool
+freshStart (Location x) = false
+freshStart (Span offset length) = false
+freshStart Restart = true
+freshStart (Setup b) = true
+
+-- one of the events is
+abbrev pub anyFreshStart : List Event → Bool
+anyFreshStart [] = false
+anyFreshStart (e ∷ es) = freshStart e || anyFreshStart es
+
+-- the bytes are these events, one after the other, and nothing else
+pub data Events : List ℕ → List Event → Type 0 where
+  none : Events [] []
+  one : {bytes : List ℕ} {g : Got} {es : List Event} → readOf bytes ≡ gives g → Events (drop (g .taken) bytes) es → Events bytes (g .event ∷ es)
+
+-- what feeding s left: with the events that were taken it continues any run that left s; and from any s it is a run, once one of
+-- them was a fresh start
+pub record Ran (bytes : List ℕ) (s : Held) (f : Feeding) : Type 0 where
+  pub events : List Event
+  pub are : Events (take (f .taken) bytes) events
+  pub continued : (past : List ℕ) → Run past s → Run (pastOf events past) (f .left)
+  pub begun : anyFreshStart events ≡ true → (past : List ℕ) → Run (pastOf events past) (f .left)
