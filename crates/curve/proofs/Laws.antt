@@ -1,12 +1,11 @@
 -- Text in a buffer: what is put behind what was put, and a number's digits. Assumes nothing.
-use Prim.Native.Nat.{ℕ, zero, suc, _+_, _-_, _*_, _/_, _%_, _^_, _≤_, _<_}
+use Prim.Native.Nat.{ℕ, zero, suc, _+_, _-_, _/_, _%_, _^_, _≤_, _<_}
 use mathlib.Core.Path.{_≡_, refl, sym, ap, _∙_}
-use mathlib.Core.Bool.{true, false, cond}
 use mathlib.Core.List.{List, [], _∷_, _++_, append-assoc, append-nil}
 use native.Mathlib.Nat.{not-suc-le-zero, add-zero, add-comm, pow-suc, pow-le-pow-right}
 use native.Mathlib.Numerals.{add-one}
 use native.Mathlib.Omega.{arith}
-use lib.Dec.{ltb, leb}
+use lib.Dec.{leb}
 use lib.ListN.{length, getD, take, drop, set, length-append, length-drop, length-set}
 use lib.Seq.{paste, take-paste, take-all, take-suc, take-suc-set, drop-set-lt, drop-drop, getD-drop, length-paste}
 use borrow.Author.Tests.{lt-ltb, le-ltb, leb-true, leb-false}
@@ -20,7 +19,7 @@ use Rattle.rules.specs.Refusals.{tornRecord, pointOf}
 use Rattle.rules.proofs.Tests.{cases}
 use Rattle.rules.proofs.Bounds.{buckets-long}
 use Rattle.rules.proofs.Calls.{not-both, point-torn, point-short}
-use Rattle.io.specs.Digits.{glyph, digits, Fewest}
+use Rattle.io.specs.Digits.{digits, Fewest}
 use Rattle.curve.specs.Text.{decimalMost, decimal, shapeOf, pointAt, Adds}
 
 -- ---- one text behind another

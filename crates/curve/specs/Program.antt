@@ -1,14 +1,14 @@
 -- Document 01, "The curve program": from the whole input to what is printed. Assumes nothing.
-use Prim.Native.Nat.{ℕ, _+_, _≤_}
+use Prim.Native.Nat.{ℕ, _≤_}
 use mathlib.Core.Path.{_≡_}
 use mathlib.Core.List.{List}
-use lib.ListN.{length, take, drop, replicate}
+use lib.ListN.{length, take, replicate}
 use Rattle.rules.specs.declared.Record.{Record}
 use Rattle.rules.specs.declared.Settings.{Settings}
 use Rattle.rules.specs.Settings.{Tables}
 use Rattle.rules.specs.Answers.{Said, refused, gives}
-use Rattle.rules.specs.Refusals.{Held, Beginning, tablesOf, setupOf}
-use Rattle.feed.specs.Feed.{End, whole, inside, Feeding, feedOf}
+use Rattle.rules.specs.Refusals.{Held, tablesOf, setupOf}
+use Rattle.feed.specs.Feed.{End, whole, inside, feedOf}
 use Rattle.curve.specs.declared.Came.{Came}
 use Rattle.curve.specs.declared.Came.the-variants as came
 use Rattle.curve.specs.declared.Done.{Done}

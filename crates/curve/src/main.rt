@@ -224,7 +224,7 @@ fn refusal_in(ending: Ending) -> u64
     ensures { λ r. ⌜ r ≡ refusalIn (saidEnding ending) ⌝ }
 {
     match ending {
-        Ending::Refused(why) => feed::number_of(why),
+        Ending::Refused(why) => tracker::number_of(why),
         Ending::Whole => 0,
         Ending::Inside => 0,
     }
@@ -288,7 +288,12 @@ fn run(buffer: &mut [u8], locations: &mut [u64], counts: &mut [u64], thresholds:
     };
     match tracker::setup(given, locations, counts, thresholds) {
         Started::Ready(k) => follow(k, buffer, locations, counts, thresholds),
-        Started::Refused(why) => Done::Text(put_refused_line(buffer, 0, feed::number_of(why), 0)),
+        Started::Refused(why) => Done::Text(put_refused_line(
+            buffer,
+            0,
+            tracker::number_of(why),
+            0,
+        )),
     }
 }
 
