@@ -149,25 +149,59 @@ fn long_input(random: &mut Random, length: usize) -> Vec<u8> {
     bytes
 }
 
-/// 20 MB in one go; then a smaller one in irregular small pieces, whole, cut inside an event, and empty.
+/// 20 MB in one go; irregular pieces; ends near the edges of buffers; events cut and refused; no input at all.
 pub fn pipes(model: &Model, seed: u64, length: usize) -> Result<(), String> {
     let mut random = Random::new(seed);
     let long = long_input(&mut random, length);
     same(&printed(&long)?, &model.program(&long))
         .map_err(|error| format!("seed {seed}, {} bytes: {error}", long.len()))?;
-    for case in 0..6 {
-        let mut input = long_input(&mut random, 6_000 + 40 * case);
+    pieces(model, &mut random).map_err(|error| format!("seed {seed} {error}"))?;
+    edges(model, &mut random).map_err(|error| format!("seed {seed} {error}"))?;
+    cut_events(model)?;
+    let empty = "curve refs 0 sampled 0 threshold 1677721 live 0\nempty\n";
+    same(&printed(&[])?, empty).map_err(|error| format!("empty input: {error}"))?;
+    same(&model.program(&[]), empty).map_err(|error| format!("model, empty input: {error}"))
+}
+
+/// Inputs in irregular pieces, small and large, whole and cut inside an event.
+fn pieces(model: &Model, random: &mut Random) -> Result<(), String> {
+    for case in 0..8 {
+        let (length, longest) = if case < 6 {
+            (6_000, 23)
+        } else {
+            (900_000, 9_000)
+        };
+        let mut input = long_input(random, length + 40 * case);
         if case % 2 == 1 {
             let cut = random.between(1, 8) as usize;
             input.truncate(input.len() - cut);
         }
-        let lengths: Vec<usize> = (0..37).map(|_| random.between(1, 23) as usize).collect();
-        same(
-            &printed_in_pieces(&input, &lengths)?,
-            &model.program(&input),
-        )
-        .map_err(|error| format!("seed {seed} pieces {case}: {error}"))?;
+        let lengths: Vec<usize> = (0..37)
+            .map(|_| random.between(1, longest) as usize)
+            .collect();
+        let text = printed_in_pieces(&input, &lengths)?;
+        same(&text, &model.program(&input)).map_err(|error| format!("pieces {case}: {error}"))?;
     }
+    Ok(())
+}
+
+/// Inputs that end near the edges of a program's buffers, followed by an event that is refused, cut short, or by nothing.
+fn edges(model: &Model, random: &mut Random) -> Result<(), String> {
+    let refused = Event::Setup(8193, 0, 0, 0, 0).bytes();
+    let tails: [&[u8]; 4] = [&[], &[0], &refused, &refused[..17]];
+    for edge in [4_096, 8_192, 65_536, 1 << 20] {
+        for (case, tail) in tails.iter().cycle().take(16).enumerate() {
+            let mut input = long_input(random, edge - 40 + 5 * case);
+            input.extend_from_slice(tail);
+            same(&printed(&input)?, &model.program(&input))
+                .map_err(|error| format!("edge {edge} case {case}: {error}"))?;
+        }
+    }
+    Ok(())
+}
+
+/// A setup event cut after each number of bytes.
+fn cut_events(model: &Model) -> Result<(), String> {
     for cut in 1..18 {
         let event = Event::Setup(3, 5, 7, 9, 1).bytes();
         let input = [Event::Location(9).bytes(), event[..cut].to_vec()].concat();
@@ -176,9 +210,7 @@ pub fn pipes(model: &Model, seed: u64, length: usize) -> Result<(), String> {
             .map_err(|error| format!("cut after {cut} bytes: {error}"))?;
         same(&model.program(&input), expected).map_err(|error| format!("model: {error}"))?;
     }
-    let empty = "curve refs 0 sampled 0 threshold 1677721 live 0\nempty\n";
-    same(&printed(&[])?, empty).map_err(|error| format!("empty input: {error}"))?;
-    same(&model.program(&[]), empty).map_err(|error| format!("model, empty input: {error}"))
+    Ok(())
 }
 
 /// A trace of at most so many different blocks, with runs, loops and random references.
