@@ -1,0 +1,44 @@
+use borrow.Author.Needs.{needs}
+use mathlib.Core.Path.{_≡_, sym, ap, _∙_}
+use native.Mathlib.Omega.{arith}
+use lib.ListN.{length-drop}
+use denote.Ref.{now}
+use Rattle.rules.specs.Answers.{saidReading}
+use Rattle.rules.proofs.Events.{got, taken}
+use Rattle.trace.specs.Reader.{readAt}
+use Rattle.trace.proofs.reader.step_at.Statement.{statement}
+use Rattle.trace.proofs.reader.step_at.Tie as tie
+
+left-at-requires : tie.Need-left-at-requires
+left-at-requires c κs = search needs
+
+read-requires : tie.Need-read-requires
+read-requires c κs = search needs
+
+enum-known-reading : tie.Need-enum-known-reading
+enum-known-reading c = search needs
+
+enum-told : tie.Need-enum-told
+enum-told c = search needs
+
+-- the reading is the one at the place
+module _ (c : tie.After-read) where
+  at-place : readAt (now (c .before .before .before .args .bytes)) (c .before .before .before .args .at) ≡ saidReading (c .read .result)
+  at-place = rw (← c .before .left-at .ensures) (sym (c .read .ensures))
+
+is-got : (c : tie.After-known-told) → readAt (now (c .before .before .before .before .before .before .args .bytes)) (c .before .before .before .before .before .before .args .at) ≡ got (c .before .reading .given .0 .0) (c .before .reading .given .0 .1 .0)
+is-got c = at-place (c .before .before .before) ∙ ap saidReading (c .before .reading .given .1)
+
+add-t7 : tie.Need-add-t7
+add-t7 c = record { fits = omega (arith, simp length-drop at (taken _ (is-got c))) }
+
+returns : tie.Need-returns
+returns c = rw (is-got c)
+
+returns-2 : tie.Need-returns-2
+returns-2 c = rw (at-place (c .before .before), c .enum-told .given .1)
+
+pub step-at-spec : {M : Type 1} → statement M
+step-at-spec =
+    tie.close
+    (tie.spec left-at-requires read-requires enum-known-reading add-t7 enum-told returns returns-2)

@@ -1,0 +1,86 @@
+-- The reader, over the rules of reading. Document 01, "Trace events". Assumes nothing.
+use Prim.Native.Nat.{ℕ, zero, suc, _+_}
+use mathlib.Core.List.{List, [], _∷_}
+use lib.ListN.{length, drop}
+use denote.Ref.{RefT, now}
+use Rattle.rules.specs.Answers.{Said, refused, gives, Got, saidReading}
+use Rattle.rules.specs.Events.{readOf, unreadOf}
+use Rattle.trace.specs.declared.reader.Reader.{Reader}
+use Rattle.trace.specs.declared.reader.Moved.{Moved}
+use Rattle.trace.specs.declared.reader.Stepped.{Stepped}
+use Rattle.trace.specs.declared.reader.Front.{Front}
+
+-- what stands from a place on: nothing, where the place is beyond the bytes
+abbrev pub leftAt : (bytes : List ℕ) (at : ℕ) → List ℕ
+leftAt bytes at = drop at bytes
+
+-- the reading at a place
+abbrev pub readAt : (bytes : List ℕ) (at : ℕ) → Said Got
+readAt bytes at = readOf (leftAt bytes at)
+
+-- the place past an event, or the same place where it is refused
+abbrev pub past : (at : ℕ) → Said Got → ℕ
+past at (refused n) = at
+past at (gives g) = at + g .taken
+
+abbrev pub placeAfter : (bytes : List ℕ) (at : ℕ) → ℕ
+placeAfter bytes at = past at (readAt bytes at)
+
+-- a step over plain bytes: the reading at a place, and the place after it
+pub record Stepping : Type 0 where
+  pub said : Said Got
+  pub at : ℕ
+
+abbrev pub stepAt : (bytes : List ℕ) (at : ℕ) → Stepping
+stepAt bytes at = record { said = readAt bytes at; at = placeAfter bytes at }
+
+abbrev pub saidStepped : Stepped → Stepping
+saidStepped s = record { said = saidReading (s .reading); at = s .at }
+
+-- a reader at the front of the bytes
+abbrev pub begun : RefT (List ℕ) → Reader
+begun src = record { src = src; at = 0 }
+
+-- a reader's step: the reading at its place, and the reader of the same bytes at the place after it
+pub record Moving : Type 0 where
+  pub said : Said Got
+  pub reader : Reader
+
+abbrev pub nextOf : Reader → Moving
+nextOf r = record { said = readAt (now (r .src)) (r .at); reader = record { src = r .src; at = placeAfter (now (r .src)) (r .at) } }
+
+abbrev pub saidMoved : Moved → Moving
+saidMoved n = record { said = saidReading (n .reading); reader = n .reader }
+
+-- an event before those that follow it; none, where it is refused
+abbrev pub before : Said Got → List Got → List Got
+before (refused n) rest = []
+before (gives g) rest = g ∷ rest
+
+-- the whole events at the front of the bytes, each read from what the one before left unread, n of them at the most
+abbrev pub wholeTo : (n : ℕ) → List ℕ → List Got
+wholeTo zero bytes = []
+wholeTo (suc n) bytes = before (readOf bytes) (wholeTo n (unreadOf bytes))
+
+-- all of them: an event takes a byte at least
+unfoldable pub wholeOf : List ℕ → List Got
+wholeOf bytes = wholeTo (length bytes) bytes
+
+-- how many bytes events took together
+abbrev pub takenBy : List Got → ℕ
+takenBy [] = 0
+takenBy (g ∷ rest) = g .taken + takenBy rest
+
+-- how many whole events stand at the front, and the place of the first refusal
+abbrev pub frontOf : List ℕ → Front
+frontOf bytes = record { events = length (wholeOf bytes); at = takenBy (wholeOf bytes) }
+
+-- what a reader's steps say, n of them
+abbrev pub steps : (n : ℕ) → Reader → List (Said Got)
+steps zero r = []
+steps (suc n) r = nextOf r .said ∷ steps n (nextOf r .reader)
+
+-- what reading says, with the unread part taken again and again
+abbrev pub readings : (n : ℕ) → List ℕ → List (Said Got)
+readings zero bytes = []
+readings (suc n) bytes = readOf bytes ∷ readings n (unreadOf bytes)

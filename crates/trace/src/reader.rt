@@ -1,0 +1,108 @@
+// A reader keeps the lent bytes with its own place in them. Document 01, "Trace events".
+// The borrow checker covers no function over such a struct: `new`, `next`, `left` and `step` are proved by hand. Each
+// leaves the work to a function over the bytes and the place.
+ghost use mathlib.Core.Path.{_≡_};
+ghost use Rattle.trace.specs.Reader.{leftAt, stepAt, saidStepped, begun, nextOf, saidMoved, frontOf};
+use rules::Reading;
+
+pub struct Reader<'a> {
+    pub src: &'a [u8],
+    pub at: usize,
+}
+
+// The reading at a reader's place, with the reader moved past the event, or staying where it was refused.
+pub struct Moved<'a> {
+    pub reading: Reading,
+    pub reader: Reader<'a>,
+}
+
+// The same of plain bytes: the reading at a place, with the place past the event, or the same place.
+struct Stepped {
+    reading: Reading,
+    at: usize,
+}
+
+// How many whole events stand at the front, and the place of the first refusal.
+pub struct Front {
+    pub events: usize,
+    pub at: usize,
+}
+
+// What stands from a place on: nothing, where the place is beyond the bytes.
+fn left_at(bytes: &[u8], at: usize) -> &[u8]
+    ensures { λ r. ⌜ now r ≡ leftAt (now (bytes .entry)) at ⌝ }
+{
+    if at <= bytes.len() {
+        super::rest(bytes, at)
+    } else {
+        super::rest(bytes, bytes.len())
+    }
+}
+
+fn step_at(bytes: &[u8], at: usize) -> Stepped
+    ensures { λ r. ⌜ saidStepped r ≡ stepAt (now (bytes .entry)) at ⌝ }
+{
+    let reading = super::read(left_at(bytes, at));
+    match reading {
+        Reading::Got(_, taken) => Stepped {
+            reading,
+            at: at + taken,
+        },
+        Reading::Refused(_) => Stepped { reading, at },
+    }
+}
+
+// A reader at the front of the bytes.
+pub fn new<'a>(src: &'a [u8]) -> Reader<'a>
+    ensures { λ r. ⌜ r ≡ begun (src .entry) ⌝ }
+{
+    Reader { src, at: 0 }
+}
+
+pub fn next<'a>(r: Reader<'a>) -> Moved<'a>
+    ensures { λ n. ⌜ saidMoved n ≡ nextOf (r .entry) ⌝ }
+{
+    let step = step_at(r.src, r.at);
+    Moved {
+        reading: step.reading,
+        reader: Reader {
+            src: r.src,
+            at: step.at,
+        },
+    }
+}
+
+// What is left to read, as a part of the caller's own bytes.
+pub fn left<'a>(r: Reader<'a>) -> &'a [u8]
+    ensures { λ s. ⌜ now s ≡ leftAt (now (r .entry .src)) (r .entry .at) ⌝ }
+{
+    left_at(r.src, r.at)
+}
+
+// A reader's step with plain parameters: whoever calls it needs no proof by hand.
+fn step(bytes: &[u8], at: usize) -> Stepped
+    ensures { λ s. ⌜ saidStepped s ≡ stepAt (now (bytes .entry)) at ⌝ }
+{
+    let n = next(Reader { src: bytes, at });
+    Stepped {
+        reading: n.reading,
+        at: n.reader.at,
+    }
+}
+
+// The whole events at the front of the bytes, by a reader's steps.
+pub fn whole_events(bytes: &[u8]) -> Front
+    ensures { λ r. ⌜ r ≡ frontOf (now (bytes .entry)) ⌝ }
+{
+    let mut events: usize = 0;
+    let mut at: usize = 0;
+    loop {
+        let taken = step(bytes, at);
+        let reading = taken.reading;
+        let Reading::Got(_, _) = reading else {
+            return Front { events, at };
+        };
+        events += 1;
+        at = taken.at;
+    }
+}
