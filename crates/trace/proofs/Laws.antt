@@ -14,8 +14,9 @@ use Rattle.rules.specs.Answers.{Said, refused, gives, Got, number, saidReading}
 use Rattle.rules.specs.Events.{readOf, unreadAfter, unreadOf}
 use Rattle.rules.proofs.Events.{got, read-empty, taken}
 use Rattle.trace.specs.declared.reader.Reader.{Reader}
+use Rattle.trace.specs.declared.reader.Moved.{Moved}
 use Rattle.trace.specs.declared.reader.Stepped.{Stepped}
-use Rattle.trace.specs.Reader.{leftAt, readAt, past, placeAfter, stepAt, saidStepped, begun, nextOf, wholeTo, wholeOf, takenBy, frontOf, steps, readings}
+use Rattle.trace.specs.Reader.{leftAt, readAt, past, placeAfter, stepAt, saidStepped, begun, nextOf, saidMoved, wholeTo, wholeOf, takenBy, frontOf, steps, readings}
 
 pub drop-drop : (m n : ℕ) (s : List ℕ) → drop (m + n) s ≡ drop n (drop m s)
 drop-drop zero n s = rw zero-add
@@ -43,6 +44,10 @@ left-after bytes at = by (readAt bytes at)
     by : (q : Said Got) → drop (past at q) bytes ≡ unreadAfter q (drop at bytes)
     by (refused n) = refl
     by (gives g) = drop-drop at (g .taken) bytes
+
+-- the same by the promise of `next` alone
+pub moved-left : (r : Reader) (m : Moved) → saidMoved m ≡ nextOf r → leftAt (now (m .reader .src)) (m .reader .at) ≡ unreadOf (leftAt (now (r .src)) (r .at))
+moved-left r m k = ap (λ z. leftAt (now (z .reader .src)) (z .reader .at)) k ∙ left-after (now (r .src)) (r .at)
 
 -- a reader's steps say what reading says of what is left, with the unread part taken again and again
 pub steps-read : (n : ℕ) (r : Reader) → steps n r ≡ readings n (leftAt (now (r .src)) (r .at))

@@ -1,6 +1,6 @@
 // A reader keeps the lent bytes with its own place in them. Document 01, "Trace events".
-// The borrow checker covers no function over such a struct: `new`, `next`, `left` and `step` are proved by hand. Each
-// leaves the work to a function over the bytes and the place.
+// The borrow checker covers no function over such a struct: `new`, `next`, `left` and `step` are proved by hand. So they
+// are thin, and the work is done by functions over the bytes and the place.
 ghost use mathlib.Core.Path.{_≡_};
 ghost use Rattle.trace.specs.Reader.{leftAt, stepAt, saidStepped, begun, nextOf, saidMoved, frontOf};
 use rules::Reading;
@@ -79,7 +79,7 @@ pub fn left<'a>(r: Reader<'a>) -> &'a [u8]
     left_at(r.src, r.at)
 }
 
-// A reader's step with plain parameters: whoever calls it needs no proof by hand.
+// A reader's step with plain parameters, so that no caller needs a proof by hand.
 fn step(bytes: &[u8], at: usize) -> Stepped
     ensures { λ s. ⌜ saidStepped s ≡ stepAt (now (bytes .entry)) at ⌝ }
 {

@@ -17,7 +17,9 @@ returns : tie.Need-returns
 returns c = search needs
 
 returns-2 : tie.Need-returns-2
-returns-2 c = c .rest2 .ensures ∙ drop-length (now (c .before .before .before .args .bytes)) ∙ sym (left-beyond (now (c .before .before .before .args .bytes)) (c .before .before .before .args .at) (omega arith))
+returns-2 c =
+    let bytes = now (c .before .before .before .args .bytes) in
+    c .rest2 .ensures ∙ drop-length bytes ∙ sym (left-beyond bytes (c .before .before .before .args .at) (omega arith))
 
 pub left-at-spec : {M : Type 1} → statement M
 left-at-spec = tie.close (tie.spec rest-requires rest-requires-2 returns returns-2)
