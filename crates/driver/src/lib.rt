@@ -14,7 +14,7 @@ use rules::Shape;
 use rules::Started;
 use rules::Written;
 ghost use mathlib.Core.Path.{_≡_};
-ghost use Rattle.rules.specs.Answers.{number, saidWritten};
+ghost use Rattle.rules.specs.Answers.{saidWritten};
 ghost use Rattle.rules.specs.Refusals.{tablesOf, bucketsOf};
 ghost use Rattle.driver.specs.Words.{recordOf, wordsOf, started, setupIn, restartIn, settingsFrom, hashIn, bodyFrom, referred, referIn, kindAndBody, given, shapeFrom, pointIn, plotIn, readIn, numberOf, writeIn};
 
