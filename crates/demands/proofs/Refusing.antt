@@ -1,11 +1,11 @@
 -- Demand 1. Assumes nothing.
-use Prim.Native.Nat.{ℕ, _+_, _-_}
+use Prim.Native.Nat.{ℕ, _+_, _-_, _<_}
 use mathlib.Core.Path.{_≡_, refl, sym, ap, subst₂, _∙_}
 use mathlib.Core.Bool.{Bool, true, false, cond, not, _||_}
 use mathlib.Core.List.{List, [], _∷_, _++_}
 use mathlib.Core.Option.{some, none}
 use native.Mathlib.Omega.{arith}
-use lib.Dec.{eqb, ltb}
+use lib.Dec.{eqb, ltb, lit<}
 use lib.ListN.{length, getD, length-append, length-drop}
 use borrow.Author.Tests.{eqb-true, eqb-false, ltb-true, ltb-false, lt-ltb, le-leb, lt-leb}
 use Rattle.rules.specs.declared.Settings.{Settings}
@@ -19,11 +19,11 @@ use Rattle.rules.specs.Reference.{Reply, under, firstPlace, bucketFor, step}
 use Rattle.rules.specs.Curve.{plotPoint, totalOf}
 use Rattle.rules.specs.Answers.{Said, refused, gives}
 use Rattle.rules.specs.Events.{settingsOf, eventLength, numberAt, bodyOf, whole, readOf, writeOf}
-use Rattle.rules.specs.Refusals.{Held, Beginning, hashFor, profileOf, laid, counted, freshBuckets, freshRecord, tornRecord, tornAt, tornReport, tornFor, stale, setupOf, restartOf, stepOf, referOf, pointOf, onGives, startedOver, goingOn, referAll, applyOf}
+use Rattle.rules.specs.Refusals.{Held, Beginning, hashFor, profileOf, laid, counted, freshBuckets, freshRecord, tornRecord, tornAt, tornReport, tornFor, stale, setupOf, restartOf, stepOf, referOf, pointOf, onGives, plotOf, startedOver, goingOn, referAll, applyOf}
 use Rattle.rules.proofs.Tests.{cases, or-left, or-right}
 use Rattle.rules.proofs.Events.{write-short, write-fits}
 use Rattle.rules.proofs.Calls.{not-both, setup-either, restart-either, refer-either, refer-accept, refer-accepted, sample-laid, point-stale}
-use Rattle.demands.specs.Refusing.{Untouched, Judged, _when_, firstHolding, refusalIn, setupOrder, restartOrder, referOrder, pointOrder, wholeLength, readOrder, writeOrder, InOrder, Exactly, FirstHolding, StaleByName, Agree, Alike, AgreeAgain}
+use Rattle.demands.specs.Refusing.{Untouched, Judged, _when_, firstHolding, refusalIn, setupOrder, restartOrder, referOrder, pointOrder, wholeLength, readOrder, writeOrder, InOrder, Exactly, FirstHolding, NeverZero, StaleByName, Agree, Alike, AgreeAgain}
 
 -- ---- (a)
 
@@ -164,6 +164,35 @@ holding-append n (j ∷ l) later e = cases (j .holds)
 
 pub first-holding : FirstHolding
 first-holding = record { only-so = only-so; always-so = λ n order x. ap firstHolding (x .stands) ∙ holding-append n (x .earlier) (x .later) (x .none-earlier) }
+
+-- an order whose numbers are all above 0
+abbrev Numbered : List Judged → Type 0
+Numbered [] = Unit {0}
+Numbered (j ∷ l) = (0 < j .number) × Numbered l
+
+holds-none : (l : List Judged) → Numbered l → firstHolding l ≡ some 0 → ⊥
+holds-none [] n e = let z : _≡_ {A = ℕ} 0 1 = cc in omega arith
+holds-none (j ∷ l) n e = cases (j .holds)
+    (λ h. let q : j .number ≡ 0 = cc (rw h at e) in omega (arith, n .0))
+    (λ h. holds-none l (n .1) (rw h at e))
+
+-- a call that answers in such an order never says 0
+never : {A : Type 0} (said : Said A) (l : List Judged) → Numbered l → refusalIn said ≡ firstHolding l → said ≡ refused 0 → ⊥
+never said l n o e = holds-none l n (sym o ∙ ap refusalIn e)
+
+pub never-zero : NeverZero
+never-zero = record {
+  no-setup = λ given t. never (setupOf given t .said) (setupOrder given t) (lit< tt, (lit< tt, tt)) (setup-in-order given t);
+  no-restart = λ k t. never (restartOf k t .said) (restartOrder k t) (lit< tt, (lit< tt, tt)) (restart-in-order k t);
+  no-refer = λ x s. never (referOf x s .said) (referOrder x s) (lit< tt, (lit< tt, (lit< tt, (lit< tt, tt)))) (refer-in-order x s);
+  no-point = λ k believed n g. never (pointOf k believed n g) (pointOrder k believed n g) (point-numbers k believed n g) (point-in-order k believed n g);
+  no-plot = λ k believed n g. never (plotOf k believed n g) (pointOrder k believed n g) (point-numbers k believed n g) (on-gives plotPoint (pointOf k believed n g) ∙ point-in-order k believed n g);
+  no-read = λ s. never (readOf s) (readOrder s) (lit< tt, (lit< tt, (lit< tt, tt))) (read-in-order s);
+  no-write = λ e buffer. never (writeOf e buffer .said) (writeOrder e buffer) (lit< tt, tt) (write-in-order e buffer);
+}
+  where
+    point-numbers : (k : Record) (believed : Shape) (n : ℕ) (g : Histogram) → Numbered (pointOrder k believed n g)
+    point-numbers k believed n g = (lit< tt, (lit< tt, (lit< tt, (lit< tt, (lit< tt, (lit< tt, tt))))))
 
 -- ---- (c)
 

@@ -92,6 +92,16 @@ pub record FirstHolding : Type 0 where
   pub only-so : (n : ℕ) (order : List Judged) → firstHolding order ≡ some n → Exactly n order
   pub always-so : (n : ℕ) (order : List Judged) → Exactly n order → firstHolding order ≡ some n
 
+-- no refusal is numbered 0, so that 0 may stand for accepted
+pub record NeverZero : Type 0 where
+  pub no-setup : (given : Settings) (t : Tables) → setupOf given t .said ≡ refused 0 → ⊥
+  pub no-restart : (k : Record) (t : Tables) → restartOf k t .said ≡ refused 0 → ⊥
+  pub no-refer : (x : ℕ) (s : Held) → referOf x s .said ≡ refused 0 → ⊥
+  pub no-point : (k : Record) (believed : Shape) (n : ℕ) (g : Histogram) → pointOf k believed n g ≡ refused 0 → ⊥
+  pub no-plot : (k : Record) (believed : Shape) (n : ℕ) (g : Histogram) → plotOf k believed n g ≡ refused 0 → ⊥
+  pub no-read : (s : List ℕ) → readOf s ≡ refused 0 → ⊥
+  pub no-write : (e : Event) (buffer : List ℕ) → writeOf e buffer .said ≡ refused 0 → ⊥
+
 -- ---- (c) "A point asked for under another curve's shape is refused by name.": 5, whatever the point number
 
 abbrev pub StaleByName : Type 0
