@@ -1,2 +1,3 @@
 pub mod Laws
 pub mod Input
+pub mod Printed

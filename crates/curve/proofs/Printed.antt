@@ -1,0 +1,37 @@
+-- What is printed is of a run. Assumes nothing.
+use Prim.Native.Nat.{ℕ}
+use mathlib.Core.Path.{_≡_, refl, ap, _∙_}
+use mathlib.Core.Bool.{false}
+use mathlib.Core.List.{List, []}
+use Rattle.rules.specs.Settings.{withDefaults, outOfRange, tooShort}
+use Rattle.rules.specs.Answers.{gives}
+use Rattle.rules.specs.Refusals.{setupOf}
+use Rattle.rules.proofs.Calls.{setup-accept}
+use Rattle.demands.specs.Runs.{setup}
+use Rattle.feed.specs.Feed.{feedOf}
+use Rattle.feed.proofs.Runs.{ran}
+use Rattle.curve.specs.Program.{firstSettings, firstTables, endText, textAfter}
+use Rattle.curve.specs.Printed.{start, Printed}
+
+in-range : outOfRange (withDefaults firstSettings) ≡ false
+unfolding outOfRange withDefaults
+in-range = refl
+
+long : tooShort (withDefaults firstSettings) firstTables ≡ false
+unfolding withDefaults
+long = refl
+
+-- the program begins with an accepted setup
+begins : setupOf firstSettings firstTables ≡ record { said = gives (start .kept); tables = start .tables }
+unfolding start
+begins = setup-accept firstSettings firstTables in-range long
+
+pub printed : (input : List ℕ) → Printed input
+printed input =
+    let r = ran input start in
+    record {
+      events = r .events;
+      are = r .are;
+      run = r .continued [] (setup firstSettings firstTables begins);
+      text = λ e. ap (λ b. textAfter (b .said) (b .tables) input) begins ∙ ap (λ z. endText z (feedOf input start .taken) (feedOf input start .left)) e;
+    }

@@ -1,0 +1,26 @@
+-- What is printed is of a run: demands 2 and 3 hold of the curve that the program prints. Assumes nothing.
+use mathlib.Core.Path.{_≡_}
+use mathlib.Core.List.{List, []}
+use Prim.Native.Nat.{ℕ}
+use lib.ListN.{take}
+use Rattle.rules.specs.declared.Event.{Event}
+use Rattle.rules.specs.Answers.{gives}
+use Rattle.rules.specs.Settings.{withDefaults}
+use Rattle.rules.specs.Refusals.{Held, fresh}
+use Rattle.demands.specs.Runs.{Run}
+use Rattle.feed.specs.Feed.{whole, feedOf}
+use Rattle.feed.specs.Past.{Events, pastOf}
+use Rattle.curve.specs.Text.{curveText}
+use Rattle.curve.specs.Program.{firstSettings, firstTables, programOf}
+
+-- the fresh start that the program begins with
+unfoldable pub start : Held
+start = fresh (withDefaults firstSettings) firstTables
+
+-- of an input that ends at the end of an event, none of them refused: its events, and the run whose references are those since the
+-- last fresh start among them; the program prints the curve of what that run left
+pub record Printed (input : List ℕ) : Type 0 where
+  pub events : List Event
+  pub are : Events (take (feedOf input start .taken) input) events
+  pub run : Run (pastOf events []) (feedOf input start .left)
+  pub text : feedOf input start .said ≡ gives whole → programOf input ≡ curveText (feedOf input start .left .kept) (feedOf input start .left .tables .histogram)
