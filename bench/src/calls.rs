@@ -1,5 +1,6 @@
 //! The hot paths of the library, one call at a time.
 
+use crate::interface;
 use crate::measure::{compare, Row, Size};
 use crate::plain::{self, Answer, Record, Settings, Tables, FULL_RATE};
 use crate::proved;
@@ -139,7 +140,7 @@ fn hash(size: Size) -> Row {
         "hash kind 1",
         size,
         count,
-        || run(proved::rockgingham_hash),
+        || run(interface::rockgingham_hash),
         || run(plain::hash_of),
     )
 }
@@ -256,7 +257,7 @@ fn reading(size: Size) -> Row {
         "reading an event",
         size,
         count,
-        || run(proved::rockgingham_read),
+        || run(interface::rockgingham_read),
         || run(plain_read),
     )
 }

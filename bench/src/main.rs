@@ -4,6 +4,8 @@
 //!        bench curve        (the plain program: events from standard input, the curve to standard output)
 
 mod calls;
+#[path = "../../include/rockgingham.rs"]
+mod interface;
 mod measure;
 mod plain;
 mod program;

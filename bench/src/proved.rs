@@ -1,59 +1,7 @@
 //! The proved code, as C calls it.
 
+use crate::interface::*;
 use crate::plain::{Answer, Event, Point, Record, Settings, Tables};
-
-#[repr(C)]
-#[derive(Clone, Copy)]
-struct CSettings {
-    limit: u64,
-    start: u64,
-    width: u64,
-    buckets: u64,
-    hash_kind: u64,
-}
-
-#[repr(C)]
-#[derive(Clone, Copy)]
-struct CShape {
-    buckets: u64,
-    width: u64,
-}
-
-extern "C" {
-    pub fn rockgingham_hash(kind: u64, location: u64) -> u64;
-    fn rockgingham_setup(
-        record: *mut u64,
-        settings: CSettings,
-        locations: *const u64,
-        locations_length: usize,
-        counts: *mut u64,
-        counts_length: usize,
-        thresholds: *mut u32,
-        thresholds_length: usize,
-    ) -> u64;
-    fn rockgingham_refer(
-        record: *mut u64,
-        answer: *mut u64,
-        location: u64,
-        locations: *mut u64,
-        locations_length: usize,
-        counts: *mut u64,
-        counts_length: usize,
-        thresholds: *mut u32,
-        thresholds_length: usize,
-    ) -> u64;
-    fn rockgingham_point(
-        record: *const u64,
-        point: *mut u64,
-        believed: CShape,
-        number: u64,
-        counts: *const u64,
-        counts_length: usize,
-        thresholds: *const u32,
-        thresholds_length: usize,
-    ) -> u64;
-    pub fn rockgingham_read(event: *mut u64, bytes: *const u8, length: usize) -> u64;
-}
 
 /// A record as its words, in the header's order.
 pub fn words(k: &Record) -> [u64; 9] {

@@ -6,6 +6,8 @@
 mod calls;
 mod cases;
 mod driver;
+#[path = "../../include/rockgingham.rs"]
+mod interface;
 mod lru;
 mod model;
 mod program;
