@@ -1,5 +1,5 @@
 -- Demand 1. Assumes nothing.
-use Prim.Native.Nat.{ℕ, _+_, _-_, _<_}
+use Prim.Native.Nat.{ℕ, _+_, _-_, _/_, _<_}
 use mathlib.Core.Path.{_≡_, refl, sym, ap, subst₂, _∙_}
 use mathlib.Core.Bool.{Bool, true, false, cond, not, _||_}
 use mathlib.Core.List.{List, [], _∷_, _++_}
@@ -19,10 +19,11 @@ use Rattle.rules.specs.Reference.{Reply, under, firstPlace, bucketFor, step}
 use Rattle.rules.specs.Curve.{plotPoint, totalOf}
 use Rattle.rules.specs.Answers.{Said, refused, gives}
 use Rattle.rules.specs.Events.{settingsOf, eventLength, numberAt, bodyOf, whole, readOf, writeOf}
-use Rattle.rules.specs.Refusals.{Held, Beginning, hashFor, profileOf, laid, counted, freshBuckets, freshRecord, tornRecord, tornAt, tornReport, tornFor, stale, setupOf, restartOf, stepOf, referOf, pointOf, onGives, plotOf, startedOver, goingOn, referAll, applyOf}
+use Rattle.rules.specs.Refusals.{Held, Beginning, hashFor, profileOf, laid, counted, freshBuckets, freshRecord, fresh, tornRecord, tornAt, tornReport, tornFor, stale, setupOf, restartOf, stepOf, referOf, pointOf, onGives, plotOf, startedOver, goingOn, referAll, applyOf}
 use Rattle.rules.proofs.Tests.{cases, or-left, or-right}
 use Rattle.rules.proofs.Events.{write-short, write-fits}
-use Rattle.rules.proofs.Calls.{not-both, setup-either, restart-either, refer-either, refer-accept, refer-accepted, sample-laid, point-stale}
+use Rattle.rules.proofs.Calls.{not-both, Begins, setup-either, setup-begins, restart-either, restart-begins, refer-either, refer-accept, refer-accepted, sample-laid, point-stale}
+use Rattle.demands.proofs.Invariant.{gives-same}
 use Rattle.demands.specs.Refusing.{Untouched, Judged, _when_, firstHolding, refusalIn, setupOrder, restartOrder, referOrder, pointOrder, wholeLength, readOrder, writeOrder, InOrder, Exactly, FirstHolding, NeverZero, StaleByName, Agree, Alike, AgreeAgain}
 
 -- ---- (a)
@@ -230,6 +231,19 @@ refer-is x s = cases (tornRecord (s .kept)) (λ a. rw a)
     (λ b. rw b (cases (full (s .kept .numbers)) (λ c. rw c)
     (λ c. rw c (cases (tornFor x s) (λ d. rw d) (λ d. rw d)))))))
 
+-- after one reference: what is said goes by its answer, and what is left is what it left
+abbrev onOne : Said Reply → Said (Unit {0})
+onOne (refused n) = refused n
+onOne (gives r) = gives tt
+
+said-one : (r : Said Reply) (l : Held) → goingOn r l (record { said = gives tt; left = l }) .said ≡ onOne r
+said-one (refused n) l = refl
+said-one (gives r) l = refl
+
+left-one : (r : Said Reply) (l : Held) → goingOn r l (record { said = gives tt; left = l }) .left ≡ l
+left-one (refused n) l = refl
+left-one (gives r) l = refl
+
 over-lengths : (l a b : List ℕ) → length a ≡ length b → length (over l a) ≡ length (over l b)
 over-lengths l a b e = simp (length-append, length-drop) (ap (λ n. length l + (n - length l)) e)
 
@@ -267,6 +281,66 @@ module _ (s t : Held) (a : Agree s t) where
       subst₂ Agree (sym (ap (λ o. o .left) e)) (sym (ap (λ o. o .left) (refer-accept x t c))) (laid-agree x))
       (λ n e. subst₂ Agree (sym (ap (λ o. o .left) e)) (sym (refer-untouched x t n (sym (refer-says x) ∙ ap (λ o. o .said) e))) a)
 
+  -- an event that stands for one reference says what the reference says, and leaves what it leaves
+  one-alike : (x : ℕ) → (referAll (x ∷ []) s .said ≡ referAll (x ∷ []) t .said) × Agree (referAll (x ∷ []) s .left) (referAll (x ∷ []) t .left)
+  unfolding referAll
+  one-alike x = (
+    said-one (referOf x s .said) (referOf x s .left) ∙ ap onOne (refer-says x) ∙ sym (said-one (referOf x t .said) (referOf x t .left)),
+    subst₂ Agree (sym (left-one (referOf x s .said) (referOf x s .left))) (sym (left-one (referOf x t .said) (referOf x t .left))) (refer-leaves x),
+  )
+
+  -- fresh starts of the same settings agree
+  fresh-alike : (set set' : Settings) → set ≡ set' → Agree (fresh set (s .tables)) (fresh set' (t .tables))
+  fresh-alike set set' e = record {
+    same-record = ap freshRecord e;
+    same-buckets = λ i. freshBuckets (e i) (a .same-buckets i);
+    same-list = refl;
+    same-length = a .same-length;
+  }
+
+  -- a start over each: both refused, or both fresh
+  started-alike : (b c : Beginning) → b .said ≡ c .said → ((n : ℕ) → b .said ≡ refused n → b .tables ≡ s .tables) → ((n : ℕ) → c .said ≡ refused n → c .tables ≡ t .tables)
+      → ((j : Record) → b .said ≡ gives j → Agree (record { kept = j; tables = b .tables }) (record { kept = j; tables = c .tables }))
+      → (startedOver (s .kept) (b .said) (b .tables) .said ≡ startedOver (t .kept) (c .said) (c .tables) .said)
+      × Agree (startedOver (s .kept) (b .said) (b .tables) .left) (startedOver (t .kept) (c .said) (c .tables) .left)
+  started-alike b c e u v w = by (b .said) refl
+    where
+      by : (r : Said Record) → b .said ≡ r
+          → (startedOver (s .kept) (b .said) (b .tables) .said ≡ startedOver (t .kept) (c .said) (c .tables) .said)
+          × Agree (startedOver (s .kept) (b .said) (b .tables) .left) (startedOver (t .kept) (c .said) (c .tables) .left)
+      by (refused n) q =
+          rw (q, sym e ∙ q) (refl, subst₂ Agree (λ i. record { kept = s .kept; tables = sym (u n q) i }) (λ i. record { kept = t .kept; tables = sym (v n (sym e ∙ q)) i }) a)
+      by (gives j) q = rw (q, sym e ∙ q) (refl, w j q)
+
+  begun-alike : (set set' : Settings) (b c : Beginning) → set ≡ set' → Begins set (s .tables) b → Begins set' (t .tables) c
+      → (j : Record) → b .said ≡ gives j → c .said ≡ gives j → Agree (record { kept = j; tables = b .tables }) (record { kept = j; tables = c .tables })
+  begun-alike set set' b c e f g j p q = subst₂ Agree
+      (λ i. record { kept = gives-same (sym (ap (λ z. z .said) (f .is)) ∙ p) i; tables = ap (λ z. z .tables) (sym (f .is)) i })
+      (λ i. record { kept = gives-same (sym (ap (λ z. z .said) (g .is)) ∙ q) i; tables = ap (λ z. z .tables) (sym (g .is)) i })
+      (fresh-alike set set' e)
+
+  restart-says : restartOf (s .kept) (s .tables) .said ≡ restartOf (t .kept) (t .tables) .said
+  restart-says = restart-is (s .kept) (s .tables) .0
+      ∙ (λ i. saying (tornRecord (a .same-record i)) 3 (short (s .kept .settings) (t .kept .settings) (ap (λ z. z .settings) (a .same-record)) i) (freshRecord (a .same-record i .settings)))
+      ∙ sym (restart-is (t .kept) (t .tables) .0)
+
+  setup-says : (given : Settings) → setupOf given (s .tables) .said ≡ setupOf given (t .tables) .said
+  setup-says given = setup-is given (s .tables) .0
+      ∙ (λ i. saying (outOfRange (withDefaults given)) 1 (short (withDefaults given) (withDefaults given) refl i) (freshRecord (withDefaults given))) ∙ sym (setup-is given (t .tables) .0)
+
+  apply-alike : (e : Event) → (applyOf e s .said ≡ applyOf e t .said) × Agree (applyOf e s .left) (applyOf e t .left)
+  unfolding applyOf referAll
+  apply-alike (Location x) = one-alike x
+  apply-alike (Span offset length) = cases (eqb length 0) (λ z. rw z (refl, a)) (λ z. rw z (one-alike (offset / 4096)))
+  apply-alike Restart = started-alike (restartOf (s .kept) (s .tables)) (restartOf (t .kept) (t .tables)) restart-says
+      (restart-untouched (s .kept) (s .tables)) (restart-untouched (t .kept) (t .tables))
+      (λ j p. begun-alike (s .kept .settings) (t .kept .settings) _ _ (ap (λ z. z .settings) (a .same-record)) (restart-begins (s .kept) (s .tables) j p)
+      (restart-begins (t .kept) (t .tables) j (sym restart-says ∙ p)) j p (sym restart-says ∙ p))
+  apply-alike (Setup b) = started-alike (setupOf (settingsOf b) (s .tables)) (setupOf (settingsOf b) (t .tables)) (setup-says (settingsOf b))
+      (setup-untouched (settingsOf b) (s .tables)) (setup-untouched (settingsOf b) (t .tables))
+      (λ j p. begun-alike (withDefaults (settingsOf b)) (withDefaults (settingsOf b)) _ _ refl (setup-begins (settingsOf b) (s .tables) j p)
+      (setup-begins (settingsOf b) (t .tables) j (sym (setup-says (settingsOf b)) ∙ p)) j p (sym (setup-says (settingsOf b)) ∙ p))
+
   pub alike : Alike s t
   alike =
       let k = a .same-record in
@@ -274,14 +348,14 @@ module _ (s t : Held) (a : Agree s t) where
       record {
         refer-says = refer-says;
         refer-leaves = refer-leaves;
-        restart-says = restart-is (s .kept) (s .tables) .0
-            ∙ (λ i. saying (tornRecord (k i)) 3 (short (s .kept .settings) (t .kept .settings) set i) (freshRecord (set i))) ∙ sym (restart-is (t .kept) (t .tables) .0);
+        restart-says = restart-says;
         restart-leaves = restart-is (s .kept) (s .tables) .1
             ∙ (λ i. leaving (tornRecord (k i)) (short (s .kept .settings) (t .kept .settings) set i) (a .same-buckets i) (freshBuckets (set i) (a .same-buckets i))) ∙ sym (restart-is (t .kept) (t .tables) .1);
-        setup-says = λ given. setup-is given (s .tables) .0
-            ∙ (λ i. saying (outOfRange (withDefaults given)) 1 (short (withDefaults given) (withDefaults given) refl i) (freshRecord (withDefaults given))) ∙ sym (setup-is given (t .tables) .0);
+        setup-says = setup-says;
         setup-leaves = λ given. setup-is given (s .tables) .1
             ∙ (λ i. leaving (outOfRange (withDefaults given)) (short (withDefaults given) (withDefaults given) refl i) (a .same-buckets i) (freshBuckets (withDefaults given) (a .same-buckets i))) ∙ sym (setup-is given (t .tables) .1);
+        apply-says = λ e. apply-alike e .0;
+        apply-leaves = λ e. apply-alike e .1;
       }
 
 pub agree-again : AgreeAgain

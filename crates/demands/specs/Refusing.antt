@@ -125,6 +125,8 @@ pub record Alike (s t : Held) : Type 0 where
   pub restart-leaves : restartOf (s .kept) (s .tables) .tables .histogram ≡ restartOf (t .kept) (t .tables) .tables .histogram
   pub setup-says : (given : Settings) → setupOf given (s .tables) .said ≡ setupOf given (t .tables) .said
   pub setup-leaves : (given : Settings) → setupOf given (s .tables) .tables .histogram ≡ setupOf given (t .tables) .tables .histogram
+  pub apply-says : (e : Event) → applyOf e s .said ≡ applyOf e t .said
+  pub apply-leaves : (e : Event) → Agree (applyOf e s .left) (applyOf e t .left)
 
 abbrev pub AgreeAgain : Type 0
 AgreeAgain = (s t : Held) → Agree s t → Alike s t
