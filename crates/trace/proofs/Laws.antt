@@ -96,7 +96,11 @@ whole-read bytes = to (length bytes) bytes
     to zero s = refl
     to (suc m) s = said-cases (readOf s) (λ n e. rw e) (λ g e. simp e (ap (λ l. gives g ∷ l) (to m (drop (g .taken) s))))
 
--- and reading is refused behind them
+-- and what the first steps of a reader give
+pub whole-steps : (src : RefT (List ℕ)) → steps (length (wholeOf (now src))) (begun src) ≡ map gives (wholeOf (now src))
+whole-steps src = steps-begun (length (wholeOf (now src))) src ∙ whole-read (now src)
+
+-- reading is refused behind them
 pub whole-ends : (bytes : List ℕ) → (n : ℕ) × (readAt bytes (takenBy (wholeOf bytes)) ≡ refused n)
 unfolding wholeOf
 whole-ends bytes = to (length bytes) bytes (omega arith)

@@ -39,6 +39,7 @@ fn left_at(bytes: &[u8], at: usize) -> &[u8]
     }
 }
 
+// The work of a step.
 fn step_at(bytes: &[u8], at: usize) -> Stepped
     ensures { λ r. ⌜ saidStepped r ≡ stepAt (now (bytes .entry)) at ⌝ }
 {
@@ -59,6 +60,7 @@ pub fn new<'a>(src: &'a [u8]) -> Reader<'a>
     Reader { src, at: 0 }
 }
 
+// The reading at the reader's place, and the reader to go on with.
 pub fn next<'a>(r: Reader<'a>) -> Moved<'a>
     ensures { λ n. ⌜ saidMoved n ≡ nextOf (r .entry) ⌝ }
 {
@@ -97,12 +99,12 @@ pub fn whole_events(bytes: &[u8]) -> Front
     let mut events: usize = 0;
     let mut at: usize = 0;
     loop {
-        let taken = step(bytes, at);
-        let reading = taken.reading;
+        let stepped = step(bytes, at);
+        let reading = stepped.reading;
         let Reading::Got(_, _) = reading else {
             return Front { events, at };
         };
         events += 1;
-        at = taken.at;
+        at = stepped.at;
     }
 }
