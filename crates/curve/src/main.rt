@@ -114,7 +114,7 @@ fn put_point(
     ensures { λ r. ⌜ Adds (now (out .entry)) at (lineOf (pointAt k number (bucketsOf (now (counts .entry)) (now (thresholds .entry))))) (now (out .exit)) r ⌝ }
     ensures { λ r. ⌜ r ≤ at + 63 ⌝ }
 {
-    match tracker::point(k, shape_of(k), number, counts, thresholds) {
+    match points::point(k, shape_of(k), number, counts, thresholds) {
         Pointed::At(p) => put_point_line(out, at, p),
         Pointed::Refused(_) => at,
     }
@@ -141,7 +141,7 @@ fn put_curve(out: &mut [u8], k: Record, counts: &[u64], thresholds: &[u32]) -> u
     ensures { λ r. ⌜ Adds (now (out .entry)) 0 (curveText k (bucketsOf (now (counts .entry)) (now (thresholds .entry)))) (now (out .exit)) r ⌝ }
 {
     let first = put_first_line(out, 0, k);
-    match tracker::point(k, shape_of(k), 0, counts, thresholds) {
+    match points::point(k, shape_of(k), 0, counts, thresholds) {
         Pointed::At(_) => {
             let points = put_points(out, first, k, counts, thresholds);
             put(out, points, b"end\n")
@@ -224,7 +224,7 @@ fn refusal_in(ending: Ending) -> u64
     ensures { λ r. ⌜ r ≡ refusalIn (saidEnding ending) ⌝ }
 {
     match ending {
-        Ending::Refused(why) => tracker::number_of(why),
+        Ending::Refused(why) => judge::number_of(why),
         Ending::Whole => 0,
         Ending::Inside => 0,
     }
@@ -286,14 +286,9 @@ fn run(buffer: &mut [u8], locations: &mut [u64], counts: &mut [u64], thresholds:
         buckets: 0,
         hashing: Hashing { kind: 1 },
     };
-    match tracker::setup(given, locations, counts, thresholds) {
+    match start::setup(given, locations, counts, thresholds) {
         Started::Ready(k) => follow(k, buffer, locations, counts, thresholds),
-        Started::Refused(why) => Done::Text(put_refused_line(
-            buffer,
-            0,
-            tracker::number_of(why),
-            0,
-        )),
+        Started::Refused(why) => Done::Text(put_refused_line(buffer, 0, judge::number_of(why), 0)),
     }
 }
 

@@ -115,12 +115,12 @@ pub extern "C" fn rockgingham_setup(
 ) -> u64
     ensures { λ r. ⌜ started r (now (words .exit)) (tablesOf (now (locations .entry)) (now (counts .exit)) (now (thresholds .exit))) ≡ setupIn (settingsFrom asked) (now (words .entry)) (tablesOf (now (locations .entry)) (now (counts .entry)) (now (thresholds .entry))) ⌝ }
 {
-    match tracker::setup(settings_from(asked), locations, counts, thresholds) {
+    match start::setup(settings_from(asked), locations, counts, thresholds) {
         Started::Ready(k) => {
             *words = words_of(k);
             0
         }
-        Started::Refused(why) => tracker::number_of(why),
+        Started::Refused(why) => judge::number_of(why),
     }
 }
 
@@ -134,12 +134,12 @@ pub extern "C" fn rockgingham_restart(
 ) -> u64
     ensures { λ r. ⌜ started r (now (words .exit)) (tablesOf (now (locations .entry)) (now (counts .exit)) (now (thresholds .exit))) ≡ restartIn (now (words .entry)) (tablesOf (now (locations .entry)) (now (counts .entry)) (now (thresholds .entry))) ⌝ }
 {
-    match tracker::restart(record_of(*words), locations, counts, thresholds) {
+    match start::restart(record_of(*words), locations, counts, thresholds) {
         Started::Ready(k) => {
             *words = words_of(k);
             0
         }
-        Started::Refused(why) => tracker::number_of(why),
+        Started::Refused(why) => judge::number_of(why),
     }
 }
 
@@ -173,7 +173,7 @@ pub extern "C" fn rockgingham_refer(
             *answer = [2, 0];
             0
         }
-        Answer::Refused(why) => tracker::number_of(why),
+        Answer::Refused(why) => judge::number_of(why),
     }
 }
 
@@ -190,12 +190,12 @@ pub extern "C" fn rockgingham_point(
     ensures { λ r. ⌜ given r (now (point .exit)) ≡ pointIn (now (words .entry)) (shapeFrom believed) number (bucketsOf (now (counts .entry)) (now (thresholds .entry))) (now (point .entry)) ⌝ }
 {
     let shape = shape_from(believed);
-    match tracker::point(record_of(*words), shape, number, counts, thresholds) {
+    match points::point(record_of(*words), shape, number, counts, thresholds) {
         Pointed::At(p) => {
             *point = [p.size, p.hits, p.misses, p.total];
             0
         }
-        Pointed::Refused(why) => tracker::number_of(why),
+        Pointed::Refused(why) => judge::number_of(why),
     }
 }
 
@@ -212,12 +212,12 @@ pub extern "C" fn rockgingham_plot(
     ensures { λ r. ⌜ given r (now (pair .exit)) ≡ plotIn (now (words .entry)) (shapeFrom believed) number (bucketsOf (now (counts .entry)) (now (thresholds .entry))) (now (pair .entry)) ⌝ }
 {
     let shape = shape_from(believed);
-    match tracker::plot_point(record_of(*words), shape, number, counts, thresholds) {
+    match points::plot_point(record_of(*words), shape, number, counts, thresholds) {
         Plotted::At(p) => {
             *pair = [p.size, p.ratio];
             0
         }
-        Plotted::Refused(why) => tracker::number_of(why),
+        Plotted::Refused(why) => judge::number_of(why),
     }
 }
 
@@ -252,7 +252,7 @@ pub extern "C" fn rockgingham_read(event: &mut [u64; 7], bytes: &[u8]) -> u64
             *event = event_words(e, taken);
             0
         }
-        Reading::Refused(why) => tracker::number_of(why),
+        Reading::Refused(why) => judge::number_of(why),
     }
 }
 
@@ -262,7 +262,7 @@ fn number_written(answer: Written) -> u64
 {
     match answer {
         Written::Filled(_) => 0,
-        Written::Refused(why) => tracker::number_of(why),
+        Written::Refused(why) => judge::number_of(why),
     }
 }
 

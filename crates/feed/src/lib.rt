@@ -26,7 +26,7 @@ pub struct Fed {
 fn unread_for(why: Refusal) -> Ending
     ensures { λ r. ⌜ saidEnding r ≡ unread (number why) ⌝ }
 {
-    if tracker::number_of(why) == 7 {
+    if judge::number_of(why) == 7 {
         return Ending::Inside;
     }
     Ending::Refused(why)
@@ -47,7 +47,7 @@ pub fn feed(
     while at < bytes.len() {
         match trace::read(&bytes[at..]) {
             Reading::Got(event, taken) => {
-                let applied = tracker::apply(kept, event, locations, counts, thresholds);
+                let applied = apply::apply(kept, event, locations, counts, thresholds);
                 let answer = applied.answer;
                 kept = applied.kept;
                 if let Taken::Refused(why) = answer {

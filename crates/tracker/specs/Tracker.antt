@@ -1,21 +1,10 @@
--- What the entry points' own functions hand to each other. Assumes nothing.
-use Prim.Native.Nat.{ℕ, _+_, _-_, _*_}
+-- What the functions of one reference hand to each other. Assumes nothing.
+use Prim.Native.Nat.{ℕ, _+_}
 use mathlib.Core.Path.{_≡_}
-use mathlib.Core.Bool.{true, false, cond}
-use lib.Dec.{eqb}
-use Rattle.rules.specs.declared.Settings.{Settings}
+use mathlib.Core.Bool.{true, false}
 use Rattle.rules.specs.declared.Record.{Record}
-use Rattle.rules.specs.declared.Point.{Point}
-use Rattle.rules.specs.declared.Sums.{Sums}
-use Rattle.rules.specs.declared.Started.{Started}
-use Rattle.rules.specs.declared.Started.the-variants as started
-use Rattle.rules.specs.declared.Applied.{Applied}
-use Rattle.rules.specs.declared.Taken.{Taken}
-use Rattle.rules.specs.declared.Taken.the-variants as taken
 use Rattle.rules.specs.declared.Referred.{Referred}
 use Rattle.rules.specs.declared.Answer.{Answer}
-use Rattle.rules.specs.declared.Answer.the-variants as answer
-use Rattle.rules.specs.Answers.{Said, refused, gives}
 use Rattle.rules.specs.Settings.{tooShort, full}
 use Rattle.rules.specs.Reference.{under}
 use Rattle.rules.specs.Refusals.{Held, hashFor, tornRecord}
@@ -38,22 +27,3 @@ pub record Samples (x : ℕ) (s : Held) : Type 0 where
   pub tables-long : tooShort (s .kept .settings) (s .tables) ≡ false
   pub room : full (s .kept .numbers) ≡ false
   pub below : under (hashFor (s .kept .settings)) (s .kept .threshold) x ≡ true
-
--- point k of fixed widths, from the report's sums
-abbrev pub fromSums : Settings → (k : ℕ) → Sums → Said Point
-fromSums s k sums = cond (eqb (sums .total) 0) (refused 9) (gives (record { size = k * s .width; hits = sums .hits; misses = sums .total - sums .hits; total = sums .total }))
-
--- a start over a tracker that had the record k
-abbrev pub startedOn : Record → Started → Applied
-startedOn k (started.Ready j) = record { kept = j; answer = taken.Whole }
-startedOn k (started.Refused r) = record { kept = k; answer = taken.Refused r }
-
--- an event that stood for one reference
-abbrev pub takenOf : Answer → Taken
-takenOf answer.Skipped = taken.Whole
-takenOf (answer.Again d) = taken.Whole
-takenOf answer.First = taken.Whole
-takenOf (answer.Refused r) = taken.Refused r
-
-abbrev pub takenFrom : Referred → Applied
-takenFrom r = record { kept = r .kept; answer = takenOf (r .answer) }

@@ -19,7 +19,7 @@ returns : tie.Need-returns
 returns c = rw (c .refused .ensures) (sym (refer-torn _ _ (sym (c .before .before .torn .ensures) ∙ c .before .if1 .taken)))
 
 too-short-requires : tie.Need-too-short-requires
-too-short-requires c κs = whole _ (sym (c .before .before .before .before .before .torn .ensures) ∙ c .before .before .before .before .if1 .left) .settings-whole
+too-short-requires c κs = search needs
 
 refused-requires-2 : tie.Need-refused-requires-2
 refused-requires-2 c κs = search needs

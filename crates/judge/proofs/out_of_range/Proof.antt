@@ -1,0 +1,11 @@
+use mathlib.Core.Path.{refl}
+use Rattle.rules.specs.Settings.{outOfRange}
+use Rattle.judge.proofs.out_of_range.Statement.{statement}
+use Rattle.judge.proofs.out_of_range.Tie as tie
+
+returns : tie.Need-returns
+unfolding outOfRange
+returns c = refl
+
+pub out-of-range-spec : {M : Type 1} → statement M
+out-of-range-spec = tie.close (tie.spec returns)

@@ -1,0 +1,85 @@
+// What a call judges before it does anything, each test once, and the refusals' numbers. Every function takes anything.
+use rules::Record;
+use rules::Refusal;
+use rules::Settings;
+use rules::Shape;
+ghost use mathlib.Core.Path.{_≡_};
+ghost use lib.Dec.{ltb};
+ghost use Rattle.rules.specs.Settings.{outOfRange, needed, tooShort, bucketsTooShort};
+ghost use Rattle.rules.specs.Answers.{number};
+ghost use Rattle.rules.specs.Refusals.{tornRecord, bucketsOf, tablesOf, stale};
+
+// A refusal's number, for who answers in numbers.
+pub fn number_of(why: Refusal) -> u64
+    ensures { λ r. ⌜ r ≡ number why ⌝ }
+{
+    match why {
+        Refusal::Settings => 1,
+        Refusal::Tables => 2,
+        Refusal::Torn => 3,
+        Refusal::Full => 4,
+        Refusal::Stale => 5,
+        Refusal::Point => 6,
+        Refusal::Short => 7,
+        Refusal::Kind => 8,
+        Refusal::Empty => 9,
+    }
+}
+
+// Whether settings, after defaults, are outside their ranges.
+pub fn out_of_range(s: Settings) -> bool
+    ensures { λ r. ⌜ r ≡ outOfRange s ⌝ }
+{
+    (s.limit == 0)
+        | (8192 < s.limit)
+        | (s.start == 0)
+        | (0x100_0000 < s.start)
+        | (s.width == 0)
+        | (0xffff_ffff < s.width)
+        | (s.buckets == 0)
+        | (10000 < s.buckets)
+        | (1 < s.hashing.kind)
+}
+
+// Whether a record is torn.
+pub fn torn(k: Record) -> bool
+    ensures { λ r. ⌜ r ≡ tornRecord k ⌝ }
+{
+    let s = k.settings;
+    out_of_range(s)
+        | (s.limit < k.live)
+        | (s.start < k.threshold)
+        | (k.numbers.references < k.numbers.sampled)
+        | (0xffff_ffff < k.numbers.references)
+}
+
+// Whether a bucket table of so many entries is too short for so many buckets.
+fn shorter(entries: u64, buckets: u64) -> bool
+    ensures { λ r. ⌜ r ≡ ltb entries (needed buckets) ⌝ }
+{
+    if entries < 2 {
+        return true;
+    }
+    entries - 2 < buckets
+}
+
+// Whether a bucket table is too short.
+pub fn buckets_too_short(s: Settings, counts: &[u64], thresholds: &[u32]) -> bool
+    ensures { λ r. ⌜ r ≡ bucketsTooShort s (bucketsOf (now (counts .entry)) (now (thresholds .entry))) ⌝ }
+{
+    shorter(counts.len() as u64, s.buckets) | shorter(thresholds.len() as u64, s.buckets)
+}
+
+// Whether a table is too short.
+pub fn too_short(s: Settings, locations: &[u64], counts: &[u64], thresholds: &[u32]) -> bool
+    ensures { λ r. ⌜ r ≡ tooShort s (tablesOf (now (locations .entry)) (now (counts .entry)) (now (thresholds .entry))) ⌝ }
+{
+    ((locations.len() as u64) < s.limit) | buckets_too_short(s, counts, thresholds)
+}
+
+// Whether the believed shape is not the tracker's.
+pub fn is_stale(believed: Shape, s: Settings) -> bool
+    ensures { λ r. ⌜ r ≡ stale believed s ⌝ }
+{
+    (believed.buckets != s.buckets) | (believed.width != s.width)
+}

@@ -1,0 +1,3 @@
+pub mod Doubles
+pub mod CurvePoints
+pub mod Unique

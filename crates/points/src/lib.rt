@@ -1,0 +1,84 @@
+// The points of the curve. Each function takes any record, any believed shape, any point number and tables of any length with any
+// contents.
+use rules::PlotPoint;
+use rules::Plotted;
+use rules::Point;
+use rules::Pointed;
+use rules::Record;
+use rules::Refusal;
+use rules::Reported;
+use rules::Settings;
+use rules::Shape;
+use rules::Sums;
+ghost use mathlib.Core.Path.{_≡_};
+ghost use Prim.Native.Nat.{_≤_};
+ghost use Rattle.rules.specs.Answers.{saidPointed, saidPlotted};
+ghost use Rattle.rules.specs.Refusals.{bucketsOf, pointOf, plotOf};
+ghost use Rattle.points.specs.Points.{fromSums};
+
+// The point, from the report's sums.
+fn point_of(s: Settings, number: u64, sums: Sums) -> Pointed
+    requires { ⌜ (number ≤ 10000) × (s .width ≤ 4294967295) × (sums .hits ≤ sums .total) ⌝ }
+    ensures { λ r. ⌜ saidPointed r ≡ fromSums s number sums ⌝ }
+{
+    if sums.total == 0 {
+        return Pointed::Refused(Refusal::Empty);
+    }
+    Pointed::At(Point {
+        size: number * s.width,
+        hits: sums.hits,
+        misses: sums.total - sums.hits,
+        total: sums.total,
+    })
+}
+
+// A point of the curve, under the shape that the caller believes.
+pub fn point(k: Record, believed: Shape, number: u64, counts: &[u64], thresholds: &[u32]) -> Pointed
+    ensures { λ r. ⌜ saidPointed r ≡ pointOf k believed number (bucketsOf (now (counts .entry)) (now (thresholds .entry))) ⌝ }
+{
+    if judge::torn(k) {
+        return Pointed::Refused(Refusal::Torn);
+    }
+    let s = k.settings;
+    if judge::buckets_too_short(s, counts, thresholds) {
+        return Pointed::Refused(Refusal::Tables);
+    }
+    if judge::is_stale(believed, s) {
+        return Pointed::Refused(Refusal::Stale);
+    }
+    if s.buckets < number {
+        return Pointed::Refused(Refusal::Point);
+    }
+    let needed = (s.buckets + 2) as usize;
+    let references = k.numbers.references as u32;
+    match buckets::report(
+        counts,
+        thresholds,
+        needed,
+        number as usize,
+        k.threshold,
+        references,
+    ) {
+        Reported::Sums(sums) => point_of(s, number, sums),
+        Reported::Torn => Pointed::Refused(Refusal::Torn),
+    }
+}
+
+// The same point as a pair of doubles: the size, and misses divided by total, rounded once.
+pub fn plot_point(
+    k: Record,
+    believed: Shape,
+    number: u64,
+    counts: &[u64],
+    thresholds: &[u32],
+) -> Plotted
+    ensures { λ r. ⌜ saidPlotted r ≡ plotOf k believed number (bucketsOf (now (counts .entry)) (now (thresholds .entry))) ⌝ }
+{
+    match point(k, believed, number, counts, thresholds) {
+        Pointed::At(p) => Plotted::At(PlotPoint {
+            size: p.size as f64,
+            ratio: (p.misses as f64) / (p.total as f64),
+        }),
+        Pointed::Refused(why) => Plotted::Refused(why),
+    }
+}
