@@ -57,6 +57,10 @@ fn program(seed: u64) -> Result<(), String> {
     println!("library: {hashes} hashes agree with published MurmurHash3 code");
     program::failed_read()?;
     println!("program: a read that fails is no end of the input");
+    program::interrupted()?;
+    println!("program: interrupted reads and short writes change nothing");
+    program::failed_write()?;
+    println!("program: a write that fails is said");
     let cases = cases::bench()?;
     println!("bench table: {cases} cases agree");
     Ok(())

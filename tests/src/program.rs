@@ -8,6 +8,14 @@ use std::time::Duration;
 
 const CURVE: &str = concat!(env!("CARGO_MANIFEST_DIR"), "/../target/bin/curve");
 
+/// Made of tests/interrupted.c by `tests/run`.
+const INTERRUPTED: &str = concat!(
+    env!("CARGO_MANIFEST_DIR"),
+    "/../target/tests/interrupted.so"
+);
+
+const MORNING: &str = concat!(env!("CARGO_MANIFEST_DIR"), "/../data/morning.trace");
+
 fn start() -> Result<Child, String> {
     Command::new(CURVE)
         .stdin(Stdio::piped())
@@ -79,6 +87,57 @@ pub fn failed_read() -> Result<(), String> {
         let printed = String::from_utf8_lossy(&end.stdout).into_owned();
         Err(format!(
             "after a read that failed the program printed '{printed}'"
+        ))
+    }
+}
+
+/// A trace whose reads are interrupted, and whose output is taken a few bytes at a time, prints the same curve.
+pub fn interrupted() -> Result<(), String> {
+    let bytes = std::fs::read(MORNING).map_err(|error| format!("{MORNING}: {error}"))?;
+    let expected = printed(&bytes)?;
+    let trace = File::open(MORNING).map_err(|error| error.to_string())?;
+    let end = Command::new(CURVE)
+        .env("LD_PRELOAD", INTERRUPTED)
+        .stdin(trace)
+        .output()
+        .map_err(|error| format!("{CURVE}: {error}"))?;
+    let (output, said) = (
+        String::from_utf8_lossy(&end.stdout).into_owned(),
+        String::from_utf8_lossy(&end.stderr).into_owned(),
+    );
+    let words: Vec<&str> = said.split_whitespace().collect();
+    let often = |word: &str| word.parse().is_ok_and(|times: u64| times > 1);
+    match words[..] {
+        ["interrupted", reads, "shortened", writes] if often(reads) && often(writes) => {}
+        _ => return Err(format!("nothing was interrupted: '{said}'")),
+    }
+    if output == expected {
+        Ok(())
+    } else {
+        Err(format!(
+            "after interrupted reads the program printed '{output}'"
+        ))
+    }
+}
+
+/// A write that fails (here to a full device) is said on standard error.
+pub fn failed_write() -> Result<(), String> {
+    let trace = File::open(MORNING).map_err(|error| format!("{MORNING}: {error}"))?;
+    let full = File::options()
+        .write(true)
+        .open("/dev/full")
+        .map_err(|error| format!("/dev/full: {error}"))?;
+    let end = Command::new(CURVE)
+        .stdin(trace)
+        .stdout(full)
+        .output()
+        .map_err(|error| format!("{CURVE}: {error}"))?;
+    let said = String::from_utf8_lossy(&end.stderr).into_owned();
+    if said.starts_with("curve: standard output: ") {
+        Ok(())
+    } else {
+        Err(format!(
+            "after a write that failed standard error says '{said}'"
         ))
     }
 }
