@@ -8,7 +8,7 @@ use native.Mathlib.Omega.{arith}
 use lib.Dec.{ltb}
 use lib.ListN.{length, take}
 use lib.Seq.{length-take-le}
-use borrow.Author.Tests.{lt-ltb, le-ltb, eqb-false, ltb-true}
+use borrow.Author.Tests.{lt-ltb, le-ltb, eqb-false, ltb-true, ltb-false}
 use Rattle.rules.specs.declared.Record.{Record}
 use Rattle.rules.specs.declared.Refusal.the-variants as refusal
 use Rattle.rules.specs.declared.Answer.the-variants as answer
@@ -30,7 +30,7 @@ use Rattle.buckets.proofs.Laws.{recorded-needed}
 use Rattle.live.specs.declared.Lowered.{Lowered}
 use Rattle.live.specs.Live.{movedToFront, lowering, loweringOf}
 use Rattle.live.proofs.Laws.{found-below, moved-over, moved-new}
-use Rattle.tracker.specs.Tracker.{referredOf, countedIn, Samples}
+use Rattle.tracker.specs.Tracker.{referredOf, countedIn, enteredOf, Samples}
 
 module _ (x : ℕ) (k : Record) (ls cs ts : List ℕ) (w : Samples x (held k ls cs ts)) where
   abbrev s : Held
@@ -42,8 +42,9 @@ module _ (x : ℕ) (k : Record) (ls cs ts : List ℕ) (w : Samples x (held k ls 
   long : AllLong (k .settings) (s .tables)
   long = all-long (k .settings) (s .tables) (w .tables-long)
 
-  pub room-left : k .numbers .references < 4294967295
-  room-left = omega (arith, bounds .references-high, eqb-false (k .numbers .references) mostReferences (w .room))
+  -- it can be counted, as sampled too
+  pub countable : (k .numbers .references < 4294967295) × (k .numbers .sampled ≤ k .numbers .references) × (1 ≤ 1)
+  countable = (omega (arith, bounds .references-high, eqb-false (k .numbers .references) mostReferences (w .room)), bounds .sampled-high, omega arith)
 
   pub threshold-some : 0 < k .threshold
   threshold-some = omega (arith, ltb-true (hashFor (k .settings) x) (k .threshold) (w .below))
@@ -106,26 +107,25 @@ module _ (x : ℕ) (k : Record) (ls cs ts : List ℕ) (w : Samples x (held k ls 
       ∙ sym (r .1)
 
   module _ (none-found : firstPlace x (liveOf s) ≡ none) (ls' cs' ts' : List ℕ) (e : recorded true cs' ts' ≡ recordedOf (k .numbers .references) (k .threshold) (k .settings .buckets + 1) (bucketsOf cs ts)) where
-    -- there is room for it
-    pub first-room : k .live < k .settings .limit → ls' ≡ movedToFront (k .live) x ls → afterReferred (referredOf (countedIn k (k .threshold) (k .live + 1) 1) answer.First) ls' cs' ts' ≡ referOf x s
+    -- it entered the list, with room or with a lowering
+    pub first-done : (low : Lowered) → lowering low ls' ≡ enteredOf k x ls → afterReferred (referredOf (countedIn k (low .threshold) (low .live) 1) answer.First) ls' cs' ts' ≡ referOf x s
     unfolding sampled settled
-    first-room h m =
+    first-done low m =
         let r = recorded-left none none-found (k .settings .buckets + 1) refl cs' ts' e in
-        let n : ltb (k .settings .limit) (suc (length (take (k .live) ls))) ≡ false = le-ltb (k .settings .limit) (suc (length (take (k .live) ls))) (omega (arith, counted-live)) in
-        let l : k .live + 1 ≡ suc (length (take (k .live) ls)) = omega (arith, counted-live) in
-        let o : ls' ≡ over (x ∷ liveOf s) ls = m ∙ moved-new x (k .live) ls (omega (arith, long .locations-long)) in
-        (λ i. record { said = gives first; left = record { kept = countedIn k (k .threshold) (l i) 1; tables = record { locations = o i; histogram = r .0 i } } })
-        ∙ sym (r .1 ∙ rw n)
-
-    -- there is none: the threshold falls
-    pub first-lowered : (low : Lowered) → k .settings .limit ≤ k .live → lowering low ls' ≡ loweringOf (hashFor (k .settings)) (k .threshold) (k .live) x ls
-        → afterReferred (referredOf (countedIn k (low .threshold) (low .live) 1) answer.First) ls' cs' ts' ≡ referOf x s
-    unfolding sampled settled
-    first-lowered low h m =
-        let r = recorded-left none none-found (k .settings .buckets + 1) refl cs' ts' e in
-        let n : ltb (k .settings .limit) (suc (length (take (k .live) ls))) ≡ true = lt-ltb (k .settings .limit) (suc (length (take (k .live) ls))) (omega (arith, counted-live)) in
-        (λ i. record { said = gives first; left = record { kept = countedIn k (m i .result .threshold) (m i .result .live) 1; tables = record { locations = m i .table; histogram = r .0 i } } })
-        ∙ sym (r .1 ∙ rw n)
+        let l = counted-live in
+        cases (ltb (k .live) (k .settings .limit))
+        (λ t.
+        let n : ltb (k .settings .limit) (suc (length (take (k .live) ls))) ≡ false = le-ltb (k .settings .limit) (suc (length (take (k .live) ls))) (omega (arith, l, ltb-true (k .live) (k .settings .limit) t)) in
+        let o : movedToFront (k .live) x ls ≡ over (x ∷ liveOf s) ls = moved-new x (k .live) ls (omega (arith, long .locations-long, ltb-true (k .live) (k .settings .limit) t)) in
+        let q : k .live + 1 ≡ suc (length (take (k .live) ls)) = omega (arith, l) in
+        let p : lowering low ls' ≡ lowering (record { threshold = k .threshold; live = suc (length (take (k .live) ls)) }) (over (x ∷ liveOf s) ls) = m ∙ rw t (λ i. lowering (record { threshold = k .threshold; live = q i }) (o i)) in
+        (λ i. record { said = gives first; left = record { kept = countedIn k (p i .result .threshold) (p i .result .live) 1; tables = record { locations = p i .table; histogram = r .0 i } } })
+        ∙ sym (r .1 ∙ rw n))
+        (λ t.
+        let n : ltb (k .settings .limit) (suc (length (take (k .live) ls))) ≡ true = lt-ltb (k .settings .limit) (suc (length (take (k .live) ls))) (omega (arith, l, ltb-false (k .live) (k .settings .limit) t)) in
+        let p : lowering low ls' ≡ loweringOf (hashFor (k .settings)) (k .threshold) (k .live) x ls = m ∙ rw t in
+        (λ i. record { said = gives first; left = record { kept = countedIn k (p i .result .threshold) (p i .result .live) 1; tables = record { locations = p i .table; histogram = r .0 i } } })
+        ∙ sym (r .1 ∙ rw n))
 
 -- a reference whose hash is not below the threshold
 pub skipped-done : (x : ℕ) (k : Record) (ls cs ts : List ℕ) → tornRecord k ≡ false → tooShort (k .settings) (tablesOf ls cs ts) ≡ false → full (k .numbers) ≡ false

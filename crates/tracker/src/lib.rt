@@ -1,5 +1,6 @@
 // One reference: the tests, the hash, the live list and the bucket. It takes any record, tables of any length with any contents, and
 // any location.
+use live::Lowered;
 use rules::Answer;
 use rules::Found;
 use rules::Numbers;
@@ -11,7 +12,8 @@ ghost use mathlib.Core.Option.{some, none};
 ghost use Prim.Native.Nat.{_<_, _≤_};
 ghost use Rattle.rules.specs.Reference.{widths, firstPlace, scaledDistance};
 ghost use Rattle.rules.specs.Refusals.{held, liveOf, afterReferred, referOf};
-ghost use Rattle.tracker.specs.Tracker.{referredOf, countedIn, Samples};
+ghost use Rattle.tracker.specs.Tracker.{referredOf, countedIn, enteredOf, Samples};
+ghost use Rattle.live.specs.Live.{lowering};
 
 // A refusal, with the record as it was.
 fn refused(k: Record, why: Refusal) -> Referred
@@ -64,9 +66,8 @@ fn again_at(
     requires { ⌜ Samples location (held k (now locations) (now counts) (now thresholds)) × (firstPlace location (liveOf (held k (now locations) (now counts) (now thresholds))) ≡ some place) ⌝ }
     ensures { λ r. ⌜ afterReferred r (now (locations .exit)) (now (counts .exit)) (now (thresholds .exit)) ≡ referOf location (held k (now (locations .entry)) (now (counts .entry)) (now (thresholds .entry))) ⌝ }
 {
-    let s = k.settings;
     let threshold = k.threshold;
-    let bucket = bucket_of(place, threshold, s.width, s.buckets);
+    let bucket = bucket_of(place, threshold, k.settings.width, k.settings.buckets);
     let references = k.numbers.references as u32;
     if buckets::record_in(counts, thresholds, bucket, threshold, references) {
         live::to_front(locations, place, location);
@@ -77,6 +78,22 @@ fn again_at(
     } else {
         refused(k, Refusal::Torn)
     }
+}
+
+// A location that is not in the live list enters it at the front, and the threshold falls where there is no room for it: the threshold
+// and the live number after that.
+fn enter(k: Record, location: u64, locations: &mut [u64]) -> Lowered
+    ensures { λ r. ⌜ lowering r (now (locations .exit)) ≡ enteredOf k location (now (locations .entry)) ⌝ }
+{
+    let live = k.live as usize;
+    if k.live < k.settings.limit {
+        live::to_front(locations, live, location);
+        return Lowered {
+            threshold: k.threshold,
+            live: live + 1,
+        };
+    }
+    live::lower(locations, live, k.settings.hashing, k.threshold, location)
 }
 
 // A sampled reference to a location that is not in the live list.
@@ -90,27 +107,34 @@ fn first_time(
     requires { ⌜ Samples location (held k (now locations) (now counts) (now thresholds)) × (firstPlace location (liveOf (held k (now locations) (now counts) (now thresholds))) ≡ none) ⌝ }
     ensures { λ r. ⌜ afterReferred r (now (locations .exit)) (now (counts .exit)) (now (thresholds .exit)) ≡ referOf location (held k (now (locations .entry)) (now (counts .entry)) (now (thresholds .entry))) ⌝ }
 {
-    let s = k.settings;
     let threshold = k.threshold;
-    let live = k.live as usize;
-    let bucket = (s.buckets + 1) as usize;
+    let bucket = (k.settings.buckets + 1) as usize;
     let references = k.numbers.references as u32;
     if buckets::record_in(counts, thresholds, bucket, threshold, references) {
-        if k.live < s.limit {
-            live::to_front(locations, live, location);
-            Referred {
-                kept: counted_in(k, threshold, k.live + 1, 1),
-                answer: Answer::First,
-            }
-        } else {
-            let lowered = live::lower(locations, live, s.hashing, threshold, location);
-            Referred {
-                kept: counted_in(k, lowered.threshold, lowered.live as u64, 1),
-                answer: Answer::First,
-            }
+        let entered = enter(k, location, locations);
+        Referred {
+            kept: counted_in(k, entered.threshold, entered.live as u64, 1),
+            answer: Answer::First,
         }
     } else {
         refused(k, Refusal::Torn)
+    }
+}
+
+// A sampled reference: to a location of the live list, or a first one.
+fn sampled(
+    k: Record,
+    location: u64,
+    locations: &mut [u64],
+    counts: &mut [u64],
+    thresholds: &mut [u32],
+) -> Referred
+    requires { ⌜ Samples location (held k (now locations) (now counts) (now thresholds)) ⌝ }
+    ensures { λ r. ⌜ afterReferred r (now (locations .exit)) (now (counts .exit)) (now (thresholds .exit)) ≡ referOf location (held k (now (locations .entry)) (now (counts .entry)) (now (thresholds .entry))) ⌝ }
+{
+    match live::first_place(locations, k.live as usize, location) {
+        Found::At(place) => again_at(k, location, place, locations, counts, thresholds),
+        Found::Nothing => first_time(k, location, locations, counts, thresholds),
     }
 }
 
@@ -127,21 +151,17 @@ pub fn refer(
     if judge::torn(k) {
         return refused(k, Refusal::Torn);
     }
-    let s = k.settings;
-    if judge::too_short(s, locations, counts, thresholds) {
+    if judge::too_short(k.settings, locations, counts, thresholds) {
         return refused(k, Refusal::Tables);
     }
     if k.numbers.references == 0xffff_ffff {
         return refused(k, Refusal::Full);
     }
-    if k.threshold <= hash::hash_of(s.hashing, location) {
+    if k.threshold <= hash::hash_of(k.settings.hashing, location) {
         return Referred {
             kept: counted_in(k, k.threshold, k.live, 0),
             answer: Answer::Skipped,
         };
     }
-    match live::first_place(locations, k.live as usize, location) {
-        Found::At(place) => again_at(k, location, place, locations, counts, thresholds),
-        Found::Nothing => first_time(k, location, locations, counts, thresholds),
-    }
+    sampled(k, location, locations, counts, thresholds)
 }

@@ -1,7 +1,6 @@
 use native.Mathlib.Omega.{arith}
-use mathlib.Core.Path.{sym, ap, _∙_}
+use mathlib.Core.Path.{refl, sym, _∙_}
 use borrow.Author.Tests.{eq-eqb, ne-eqb, lt-ltb, le-ltb}
-use Rattle.rules.specs.Answers.{placeFound}
 use Rattle.rules.proofs.Bounds.{whole}
 use Rattle.rules.proofs.Calls.{refer-torn, refer-short, refer-full}
 use Rattle.tracker.proofs.OneReference.{skipped-done}
@@ -10,79 +9,67 @@ use Rattle.tracker.proofs.refer.Statement.{statement}
 use Rattle.tracker.proofs.refer.Tie as tie
 
 torn-requires : tie.Need-torn-requires
-torn-requires c κs = search needs
+torn-requires c κs = tt
 
 refused-requires : tie.Need-refused-requires
-refused-requires c κs = search needs
+refused-requires c κs = tt
 
 returns : tie.Need-returns
 returns c = rw (c .refused .ensures) (sym (refer-torn _ _ (sym (c .before .before .torn .ensures) ∙ c .before .if1 .taken)))
 
 too-short-requires : tie.Need-too-short-requires
-too-short-requires c κs = search needs
+too-short-requires c κs = tt
 
 refused-requires-2 : tie.Need-refused-requires-2
-refused-requires-2 c κs = search needs
+refused-requires-2 c κs = tt
 
 same-length : tie.Need-same-length
-same-length c = search needs
+same-length c = refl
 
 same-length-2 : tie.Need-same-length-2
-same-length-2 c = search needs
+same-length-2 c = refl
 
 same-length-3 : tie.Need-same-length-3
-same-length-3 c = search needs
+same-length-3 c = refl
 
 returns-2 : tie.Need-returns-2
-returns-2 c = rw (c .refused2 .ensures) (sym (refer-short _ _ (sym (c .before .before .before .before .before .before .before .before .torn .ensures) ∙ c .before .before .before .before .before .before .before .if1 .left) (sym (c .before .before .too-short .ensures) ∙ c .before .if2 .taken)))
+returns-2 c = rw (c .refused2 .ensures) (sym (refer-short _ _ (sym (c .before .before .before .before .before .before .before .torn .ensures) ∙ c .before .before .before .before .before .before .if1 .left) (sym (c .before .before .too-short .ensures) ∙ c .before .if2 .taken)))
 
 refused-requires-3 : tie.Need-refused-requires-3
-refused-requires-3 c κs = search needs
+refused-requires-3 c κs = tt
 
 same-length-4 : tie.Need-same-length-4
-same-length-4 c = search needs
+same-length-4 c = refl
 
 same-length-5 : tie.Need-same-length-5
-same-length-5 c = search needs
+same-length-5 c = refl
 
 same-length-6 : tie.Need-same-length-6
-same-length-6 c = search needs
+same-length-6 c = refl
 
 returns-3 : tie.Need-returns-3
-returns-3 c = rw (c .refused3 .ensures) (sym (refer-full _ _ (sym (c .before .before .before .before .before .before .before .before .before .before .torn .ensures) ∙ c .before .before .before .before .before .before .before .before .before .if1 .left) (sym (c .before .before .before .before .too-short .ensures) ∙ c .before .before .before .if2 .left) (eq-eqb _ _ (c .before .if3 .taken))))
+returns-3 c = rw (c .refused3 .ensures) (sym (refer-full _ _ (sym (c .before .before .before .before .before .before .before .before .before .torn .ensures) ∙ c .before .before .before .before .before .before .before .before .if1 .left) (sym (c .before .before .before .before .too-short .ensures) ∙ c .before .before .before .if2 .left) (eq-eqb _ _ (c .before .if3 .taken))))
 
 hash-of-requires : tie.Need-hash-of-requires
-hash-of-requires c κs = search needs
+hash-of-requires c κs = tt
 
 counted-in-requires : tie.Need-counted-in-requires
-counted-in-requires c κs = let b = whole _ (sym (c .before .before .before .before .before .before .before .before .before .before .before .before .torn .ensures) ∙ c .before .before .before .before .before .before .before .before .before .before .before .if1 .left) in (omega (arith, b .references-high, c .before .before .before .if3 .left), b .sampled-high, omega arith)
+counted-in-requires c κs = let b = whole _ (sym (c .before .before .before .before .before .before .before .before .before .before .before .torn .ensures) ∙ c .before .before .before .before .before .before .before .before .before .before .if1 .left) in (omega (arith, b .references-high, c .before .before .before .if3 .left), b .sampled-high, omega arith)
 
 same-length-7 : tie.Need-same-length-7
-same-length-7 c = search needs
+same-length-7 c = refl
 
 same-length-8 : tie.Need-same-length-8
-same-length-8 c = search needs
+same-length-8 c = refl
 
 same-length-9 : tie.Need-same-length-9
-same-length-9 c = search needs
+same-length-9 c = refl
 
 returns-4 : tie.Need-returns-4
-returns-4 c = rw (c .counted-in .ensures) (skipped-done _ _ _ _ _ (sym (c .before .before .before .before .before .before .before .before .before .before .before .before .before .torn .ensures) ∙ c .before .before .before .before .before .before .before .before .before .before .before .before .if1 .left) (sym (c .before .before .before .before .before .before .before .too-short .ensures) ∙ c .before .before .before .before .before .before .if2 .left) (ne-eqb _ _ (c .before .before .before .before .if3 .left)) (le-ltb _ _ (rw (c .before .before .before .hash-of .ensures) at (c .before .if4 .taken))))
+returns-4 c = rw (c .counted-in .ensures) (skipped-done _ _ _ _ _ (sym (c .before .before .before .before .before .before .before .before .before .before .before .before .torn .ensures) ∙ c .before .before .before .before .before .before .before .before .before .before .before .if1 .left) (sym (c .before .before .before .before .before .before .before .too-short .ensures) ∙ c .before .before .before .before .before .before .if2 .left) (ne-eqb _ _ (c .before .before .before .before .if3 .left)) (le-ltb _ _ (rw (c .before .before .before .hash-of .ensures) at (c .before .if4 .taken))))
 
-first-place-requires : tie.Need-first-place-requires
-first-place-requires c κs = search needs
-
-enum-known-place : tie.Need-enum-known-place
-enum-known-place c = search needs
-
-again-at-requires : tie.Need-again-at-requires
-again-at-requires c κs = (record { record-whole = (sym (c .before .before .before .before .before .before .before .before .before .before .before .before .before .before .before .before .before .before .before .before .torn .ensures) ∙ c .before .before .before .before .before .before .before .before .before .before .before .before .before .before .before .before .before .before .before .if1 .left); tables-long = (sym (c .before .before .before .before .before .before .before .before .before .before .before .before .before .before .too-short .ensures) ∙ c .before .before .before .before .before .before .before .before .before .before .before .before .before .if2 .left); room = (ne-eqb _ _ (c .before .before .before .before .before .before .before .before .before .before .before .if3 .left)); below = lt-ltb _ _ (rw (c .before .before .before .before .before .before .before .before .before .before .hash-of .ensures) at (c .before .before .before .before .before .before .before .before .if4 .left)) }, sym (c .before .before .before .before .before .before .first-place .ensures) ∙ ap placeFound (c .before .before .before .before .place .given .1))
-
-enum-told : tie.Need-enum-told
-enum-told c = search needs
-
-first-time-requires : tie.Need-first-time-requires
-first-time-requires c κs = (record { record-whole = (sym (c .before .before .before .before .before .before .before .before .before .before .before .before .before .before .before .before .before .before .before .torn .ensures) ∙ c .before .before .before .before .before .before .before .before .before .before .before .before .before .before .before .before .before .before .if1 .left); tables-long = (sym (c .before .before .before .before .before .before .before .before .before .before .before .before .before .too-short .ensures) ∙ c .before .before .before .before .before .before .before .before .before .before .before .before .if2 .left); room = (ne-eqb _ _ (c .before .before .before .before .before .before .before .before .before .before .if3 .left)); below = lt-ltb _ _ (rw (c .before .before .before .before .before .before .before .before .before .hash-of .ensures) at (c .before .before .before .before .before .before .before .if4 .left)) }, sym (c .before .before .before .before .before .first-place .ensures) ∙ ap placeFound (c .before .before .before .enum-told .given .1))
+sampled-requires : tie.Need-sampled-requires
+sampled-requires c κs = record { record-whole = (sym (c .before .before .before .before .before .before .before .before .before .before .before .before .before .before .torn .ensures) ∙ c .before .before .before .before .before .before .before .before .before .before .before .before .before .if1 .left); tables-long = (sym (c .before .before .before .before .before .before .before .before .before .too-short .ensures) ∙ c .before .before .before .before .before .before .before .before .if2 .left); room = ne-eqb _ _ (c .before .before .before .before .before .before .if3 .left); below = lt-ltb _ _ (rw (c .before .before .before .before .before .hash-of .ensures) at (c .before .before .before .if4 .left)) }
 
 same-length-10 : tie.Need-same-length-10
 same-length-10 c = search needs
@@ -94,19 +81,7 @@ same-length-12 : tie.Need-same-length-12
 same-length-12 c = search needs
 
 returns-5 : tie.Need-returns-5
-returns-5 c = search needs
-
-same-length-13 : tie.Need-same-length-13
-same-length-13 c = search needs
-
-same-length-14 : tie.Need-same-length-14
-same-length-14 c = search needs
-
-same-length-15 : tie.Need-same-length-15
-same-length-15 c = search needs
-
-returns-6 : tie.Need-returns-6
-returns-6 c = search needs
+returns-5 c = c .before .before .before .before .before .before .sampled .ensures
 
 pub refer-spec : {M : Type 1} → statement M
 refer-spec =
@@ -132,16 +107,8 @@ refer-spec =
     same-length-8
     same-length-9
     returns-4
-    first-place-requires
-    enum-known-place
-    again-at-requires
-    enum-told
-    first-time-requires
+    sampled-requires
     same-length-10
     same-length-11
     same-length-12
-    returns-5
-    same-length-13
-    same-length-14
-    same-length-15
-    returns-6)
+    returns-5)
