@@ -1,5 +1,5 @@
 -- What an event asks of a tracker, and what it answers from the answer of that call. Assumes nothing.
-use Prim.Native.Nat.{ℕ, _/_}
+use Prim.Native.Nat.{_/_}
 use mathlib.Core.Bool.{cond}
 use lib.Dec.{eqb}
 use Rattle.rules.specs.declared.Record.{Record}

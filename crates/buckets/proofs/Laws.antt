@@ -12,10 +12,10 @@ use Rattle.rules.specs.Settings.{Histogram, needed}
 use Rattle.rules.specs.Reference.{rescaled, countAt, thresholdAt, recordIn}
 use Rattle.rules.specs.Curve.{sumTo, rawTo, hitsAt, totalOf}
 use Rattle.rules.specs.Answers.{refused, gives}
-use Rattle.rules.specs.Refusals.{tornAt, anyTorn, tornReport}
+use Rattle.rules.specs.Refusals.{tornAt, anyTorn, tornTo, tornReport}
 use Rattle.rules.proofs.Tests.{cases, or-left, or-right}
 use Rattle.rules.proofs.Bounds.{sound, sound-rescaled}
-use Rattle.buckets.specs.Buckets.{unrecordable, recordedOf, tornTo, reportOf, SoFar}
+use Rattle.buckets.specs.Buckets.{unrecordable, recordedOf, reportOf, SoFar}
 
 -- ---- torn buckets, and raw counts that are too many
 
@@ -88,7 +88,7 @@ module _ (references t buckets : ℕ) (g : Histogram) (h : needed buckets ≤ le
 
   -- the report of a point is torn as the rules say, or gives its hits and the total
   pub report-needed : (point : ℕ) → point ≤ needed buckets → reportOf references t (needed buckets) point g ≡ cond (tornReport references t buckets g) (refused 3) (gives (record { hits = hitsAt t point g; total = totalOf t buckets g }))
-  unfolding reportOf tornTo tornReport
+  unfolding reportOf
   report-needed point l = rw (le-ltb _ _ h, le-ltb _ _ k, (let e : min point (needed buckets) ≡ point = omega arith in e))
 
 -- no table becomes longer or shorter

@@ -10,7 +10,7 @@ use Rattle.rules.specs.Settings.{Histogram}
 use Rattle.rules.specs.Reference.{recordIn}
 use Rattle.rules.specs.Curve.{sumTo, rawTo}
 use Rattle.rules.specs.Answers.{Said, refused, gives}
-use Rattle.rules.specs.Refusals.{bucketsOf, tornAt, anyTorn}
+use Rattle.rules.specs.Refusals.{bucketsOf, tornAt, anyTorn, tornTo}
 use Rattle.buckets.specs.declared.Added.{Added}
 use Rattle.buckets.specs.declared.Added.the-variants as added
 
@@ -31,10 +31,6 @@ unfoldable pub recordedOf : (references t j : ℕ) → Histogram → Recorded
 recordedOf references t j g =
     cond (unrecordable references t j g) (record { done = false; histogram = g })
     (record { done = true; histogram = recordIn t j g })
-
--- of the buckets below n one is torn, or their raw counts sum above 256·references
-unfoldable pub tornTo : (references t n : ℕ) → Histogram → Bool
-tornTo references t n g = anyTorn references t n g || ltb (256 * references) (rawTo n g)
 
 -- what the first n buckets say when they are reported under t
 unfoldable pub reportOf : (references t n point : ℕ) → Histogram → Said Sums

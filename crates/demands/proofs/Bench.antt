@@ -12,7 +12,7 @@ use Rattle.rules.specs.Reference.{Reply, skipped, firstFrom, largest, settled, 
 use Rattle.rules.specs.Curve.{sumTo, rawTo}
 use Rattle.rules.specs.Answers.{refused, gives}
 use Rattle.rules.specs.Events.{readOf}
-use Rattle.rules.specs.Refusals.{Held, sampleOf, hashFor, profileOf, freshRecord, tornRecord, tornBucket, anyTorn, tornReport, setupOf, stepOf, referOf, referAll, goingOn, pointOf}
+use Rattle.rules.specs.Refusals.{Held, sampleOf, hashFor, profileOf, freshRecord, tornRecord, tornBucket, anyTorn, tornTo, setupOf, stepOf, referOf, referAll, goingOn, pointOf}
 use Rattle.rules.proofs.Clean.{step-falls}
 use Rattle.rules.proofs.Hash.{hash-zero}
 use Rattle.rules.proofs.Calls.{refer-accept, refer-either, setup-accept, setup-range}
@@ -78,7 +78,7 @@ limits : (t : Tables) → tooShort (withDefaults (kind0 8192 0 0 0)) t ≡ false
 limits t l = (ap (λ b. b .said) (setup-accept (kind0 8192 0 0 0) t (unfold outOfRange withDefaults in refl) l), ap (λ b. b .said) (setup-range (kind0 8193 0 0 0) t (unfold outOfRange withDefaults in refl)))
 
 pub bench : BenchTable
-unfolding setupOf referOf referAll tornRecord outOfRange withDefaults hashOf firstFrom largest settled sampled step tornBucket pointOf tornReport anyTorn rawTo sumTo readOf
+unfolding setupOf referOf referAll tornRecord outOfRange withDefaults hashOf firstFrom largest settled sampled step tornBucket pointOf tornTo anyTorn rawTo sumTo readOf
 bench = record {
   a = ((refl, refl), refl, refl, refl, refl, refl);
   b = ((refl, refl), refl, refl, refl, refl, refl, refl, refl, refl, refl, refl);

@@ -10,7 +10,7 @@ use borrow.Author.Tests.{eq-eqb, ne-eqb, le-ltb}
 use Rattle.rules.specs.Settings.{P, Histogram, needed, bucketsTooShort}
 use Rattle.rules.specs.Curve.{sumTo, totalOf}
 use Rattle.rules.specs.Answers.{gives}
-use Rattle.rules.specs.Refusals.{Held, sampleOf, hashFor, profileOf, anyTorn, tornReport, pointOf}
+use Rattle.rules.specs.Refusals.{Held, sampleOf, hashFor, profileOf, anyTorn, tornTo, pointOf}
 use Rattle.rules.specs.History.{recency, Largest}
 use Rattle.rules.specs.Cache.{hits}
 use Rattle.rules.proofs.Tests.{or-neither}
@@ -41,7 +41,7 @@ same-number : (n : ℕ) → not (eqb n n) ≡ false
 same-number n = ap not (eq-eqb n n refl)
 
 pub only-point-or-empty : OnlyPointOrEmpty
-unfolding pointOf tornReport
+unfolding pointOf tornTo
 only-point-or-empty past s k run =
     let v = invariant run in
     let set = s .kept .settings in

@@ -9,7 +9,7 @@ use borrow.Author.Tests.{ltb-false}
 use Rattle.rules.specs.Settings.{Histogram, needed}
 use Rattle.rules.specs.Curve.{sumTo, rawTo, totalOf}
 use Rattle.rules.specs.Reference.{countAt, thresholdAt}
-use Rattle.rules.specs.Refusals.{anyTorn, tornReport}
+use Rattle.rules.specs.Refusals.{anyTorn, tornTo, tornReport}
 use Rattle.rules.proofs.Tests.{neither}
 use Rattle.rules.proofs.Bounds.{sound, sound-rescaled}
 
@@ -31,7 +31,7 @@ module _ (references t : ℕ) (g : Histogram) where
       omega (arith, sum-raw n (p .0), sound-rescaled (sound references t (countAt n g) (thresholdAt n g) (p .1)))
 
   pub total-high : (buckets : ℕ) → tornReport references t buckets g ≡ false → totalOf t buckets g ≤ 256 * references
-  unfolding tornReport
+  unfolding tornTo
   total-high buckets e =
       let p = neither {a = anyTorn references t (needed buckets) g} e in
       omega (arith, sum-raw (needed buckets) (p .0), ltb-false (256 * references) (rawTo (needed buckets) g) (p .1))

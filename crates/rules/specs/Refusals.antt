@@ -103,9 +103,13 @@ unfoldable pub anyTorn : (references t n : ℕ) → Histogram → Bool
 anyTorn references t zero g = false
 anyTorn references t (suc n) g = anyTorn references t n g || tornAt references t n g
 
--- the buckets at a report: also, raw counts sum above 256·references
-unfoldable pub tornReport : (references t buckets : ℕ) → Histogram → Bool
-tornReport references t buckets g = anyTorn references t (needed buckets) g || ltb (256 * references) (rawTo (needed buckets) g)
+-- of the buckets below n one is torn, or their raw counts sum above 256·references
+unfoldable pub tornTo : (references t n : ℕ) → Histogram → Bool
+tornTo references t n g = anyTorn references t n g || ltb (256 * references) (rawTo n g)
+
+-- the buckets at a report: all that are needed
+abbrev pub tornReport : (references t buckets : ℕ) → Histogram → Bool
+tornReport references t buckets g = tornTo references t (needed buckets) g
 
 -- the single bucket that a reference to x would record in; none if it would be Skipped
 abbrev pub tornFor : (x : ℕ) → Held → Bool
