@@ -2,17 +2,12 @@
 use mathlib.Core.Path.{_≡_, sym, ap, _∙_}
 use Prim.Native.Nat.{ℕ}
 use mathlib.Core.List.{List}
-use denote.Ref.{RefT, now}
 use Rattle.rules.specs.declared.Event.{Event}
 use Rattle.rules.specs.declared.Reading.{Reading}
 use Rattle.rules.specs.declared.Written.{Written}
 use Rattle.rules.specs.Answers.{saidReading}
 use Rattle.rules.specs.Events.{readOf, unreadOf, writeOf, afterWritten}
 use Rattle.rules.proofs.Answers.{reading-injective, written-injective}
-use Rattle.trace.specs.declared.reader.Reader.{Reader}
-use Rattle.trace.specs.declared.reader.Moved.{Moved}
-use Rattle.trace.specs.declared.reader.Front.{Front}
-use Rattle.trace.specs.Reader.{leftAt, begun, nextOf, saidMoved, frontOf}
 
 pub read-once : (bytes : List ℕ) (a b : Reading) → saidReading a ≡ readOf bytes → saidReading b ≡ readOf bytes → a ≡ b
 read-once bytes a b p q = reading-injective a b (p ∙ sym q)
@@ -25,19 +20,3 @@ pub write-once : (event : Event) (buffer : List ℕ) (a b : Written) (afterA aft
 write-once event buffer a b afterA afterB p q =
     let k = p ∙ sym q in
     (written-injective a b (ap (λ z. z .said) k), ap (λ z. z .buffer) k)
-
-pub new-once : (src : RefT (List ℕ)) (a b : Reader) → a ≡ begun src → b ≡ begun src → a ≡ b
-new-once src a b p q = p ∙ sym q
-
-pub next-once : (r : Reader) (a b : Moved) → saidMoved a ≡ nextOf r → saidMoved b ≡ nextOf r → a ≡ b
-next-once r a b p q =
-    let k = p ∙ sym q in
-    let reading = reading-injective (a .reading) (b .reading) (ap (λ z. z .said) k) in
-    let reader = ap (λ z. z .reader) k in
-    λ i. record { reading = reading i; reader = reader i }
-
-pub left-once : (r : Reader) (a b : List ℕ) → a ≡ leftAt (now (r .src)) (r .at) → b ≡ leftAt (now (r .src)) (r .at) → a ≡ b
-left-once r a b p q = p ∙ sym q
-
-pub whole-events-once : (bytes : List ℕ) (a b : Front) → a ≡ frontOf bytes → b ≡ frontOf bytes → a ≡ b
-whole-events-once bytes a b p q = p ∙ sym q

@@ -11,8 +11,6 @@ use rules::Reading;
 use rules::Refusal;
 use rules::Written;
 
-pub mod reader; // reader.rt: the reader that keeps the lent bytes with its own place in them
-
 // The number in the bytes from a place on: one, two, four, eight of them.
 fn one_at(bytes: &[u8], at: usize) -> u8
     requires { ⌜ at + 1 ≤ length (now bytes) ⌝ }

@@ -3,9 +3,9 @@ use Prim.Native.Nat.{_-_, _<_, _≤_}
 use native.Mathlib.Omega.{arith}
 use lib.ListN.{length}
 use denote.Ref.{now}
-use Rattle.trace.proofs.Laws.{Counted, counted-none, counted-all, counted-ahead, counted-more}
-use Rattle.trace.proofs.reader.whole_events.Statement.{statement}
-use Rattle.trace.proofs.reader.whole_events.Tie as tie
+use Rattle.reader.proofs.Laws.{Counted, counted-none, counted-all, counted-ahead, counted-more}
+use Rattle.reader.proofs.whole_events.Statement.{statement}
+use Rattle.reader.proofs.whole_events.Tie as tie
 
 abbrev Inv-loop : tie.InvT-loop
 Inv-loop bytes events₀ at₀ events at = Counted bytes events at

@@ -2,7 +2,7 @@
 // The borrow checker covers no function over such a struct: `new`, `next`, `left` and `step` are proved by hand. So they
 // are thin, and the work is done by functions over the bytes and the place.
 ghost use mathlib.Core.Path.{_≡_};
-ghost use Rattle.trace.specs.Reader.{leftAt, stepAt, saidStepped, begun, nextOf, saidMoved, frontOf};
+ghost use Rattle.reader.specs.Reader.{leftAt, stepAt, saidStepped, begun, nextOf, saidMoved, frontOf};
 use rules::Reading;
 
 pub struct Reader<'a> {
@@ -33,9 +33,9 @@ fn left_at(bytes: &[u8], at: usize) -> &[u8]
     ensures { λ r. ⌜ now r ≡ leftAt (now (bytes .entry)) at ⌝ }
 {
     if at <= bytes.len() {
-        super::rest(bytes, at)
+        &bytes[at..]
     } else {
-        super::rest(bytes, bytes.len())
+        &bytes[bytes.len()..]
     }
 }
 
@@ -43,7 +43,7 @@ fn left_at(bytes: &[u8], at: usize) -> &[u8]
 fn step_at(bytes: &[u8], at: usize) -> Stepped
     ensures { λ r. ⌜ saidStepped r ≡ stepAt (now (bytes .entry)) at ⌝ }
 {
-    let reading = super::read(left_at(bytes, at));
+    let reading = trace::read(left_at(bytes, at));
     match reading {
         Reading::Got(_, taken) => Stepped {
             reading,

@@ -1,28 +1,28 @@
 -- `reader::step` meets its contract: a walk of its MIR, by hand. A `Reader` is made of the slice and the place in a local and passed to `next`, whose answer is taken apart. All that the proof knows of `next` is that it meets its contract.
 -- In a local of a body MIR erases the lifetime of a struct's type, so the answer is shown to have the type at `erased`: what a struct owns does not say the lifetime's name.
 -- Assumes nothing.
-use Rattle.trace.proofs.Walks.{_≡_, refl, ap, ℕ, _<_, _^_, List, [], _∷_, Holds, URA, fullShare, named, erased, w64, Val, WT, hasTy, vint, SProp, ent, sep, Lft, Share, Fml, ftrue, flft, fat, Heap, Calls, Loops, WpFn, Atoms, sem, givenOf, Given, ‵, raw, _⊛_, given, ⋆, _$_, _∵_, !, qed, by, move, drop, use1, rewrite, split, join, learn, fsplit, fjoin, suffices, frame, done, whole, sub, look-in, agg, look, init, forget, stop, fld, from, load, of-opd, and-then, no-more, assigns, land, returns, enter, alloc1, alloc0, params1, pass1, pass0, free1, free0, FmC, owns, Is, uint-vals, uint-tells, uint-makes, u8, usize, RefT, NamedLft, plain, slice-vals, shr-slice-tells, shr-slice-lawful, shr-slice-copy, only, owned, nothing, all-own, own-open, own-shut, Triple, calls-at, onEntry, cited, Stays, stay-none, stay-none-slice, goes-none, goes-none-slice, yes, emp, factI, Fun, Memory, Routine, walkOf, α, D, L, Own, Slice, v, Fact, promise, ends, calls-frame, handed, answered}
+use Rattle.reader.proofs.Walks.{_≡_, refl, ap, ℕ, _<_, _^_, List, [], _∷_, Holds, URA, fullShare, named, erased, w64, Val, WT, hasTy, vint, SProp, ent, sep, Lft, Share, Fml, ftrue, flft, fat, Heap, Calls, Loops, WpFn, Atoms, sem, givenOf, Given, ‵, raw, _⊛_, given, ⋆, _$_, _∵_, !, qed, by, move, drop, use1, rewrite, split, join, learn, fsplit, fjoin, suffices, frame, done, whole, sub, look-in, agg, look, init, forget, stop, fld, from, load, of-opd, and-then, no-more, assigns, land, returns, enter, alloc1, alloc0, params1, pass1, pass0, free1, free0, FmC, owns, Is, uint-vals, uint-tells, uint-makes, u8, usize, RefT, NamedLft, plain, slice-vals, shr-slice-tells, shr-slice-lawful, shr-slice-copy, only, owned, nothing, all-own, own-open, own-shut, Triple, calls-at, onEntry, cited, Stays, stay-none, stay-none-slice, goes-none, goes-none-slice, yes, emp, factI, Fun, Memory, Routine, walkOf, α, D, L, Own, Slice, v, Fact, promise, ends, calls-frame, handed, answered}
 use denote.Enum.Laws as EL
 use denote.Struct.Laws as LL
 use Rattle.rules.proofs.Reading as R
 use Rattle.rules.proofs.Reading.Laws as R′
-use Rattle.trace.specs.declared.reader.Reader.{Reader}
-use Rattle.trace.specs.declared.reader.Moved.{Moved}
-use Rattle.trace.specs.declared.reader.Stepped.{Stepped}
-use Rattle.trace.specs.Reader.{nextOf, saidMoved}
-use Rattle.trace.proofs.reader.Reader.Laws as T′
-use Rattle.trace.proofs.reader.Moved as N
-use Rattle.trace.proofs.reader.Moved.Laws as N′
-use Rattle.trace.proofs.reader.Stepped as S
-use Rattle.trace.proofs.reader.Stepped.Laws as S′
-use Rattle.trace.proofs.reader.next as next
-use Rattle.trace.proofs.reader.next.Symbol as next-def
-use Rattle.trace.proofs.reader.next.Symbol.{name as #next}
-use Rattle.trace.proofs.reader.next.Met as next-thm
-use Rattle.trace.proofs.reader.step.Key.{name as #step}
-use Rattle.trace.proofs.reader.step as step
-use Rattle.trace.proofs.reader.step.Statement as stated
-use Rattle.trace.proofs.reader.step.Code as code
+use Rattle.reader.specs.declared.Reader.{Reader}
+use Rattle.reader.specs.declared.Moved.{Moved}
+use Rattle.reader.specs.declared.Stepped.{Stepped}
+use Rattle.reader.specs.Reader.{nextOf, saidMoved}
+use Rattle.reader.proofs.Reader.Laws as T′
+use Rattle.reader.proofs.Moved as N
+use Rattle.reader.proofs.Moved.Laws as N′
+use Rattle.reader.proofs.Stepped as S
+use Rattle.reader.proofs.Stepped.Laws as S′
+use Rattle.reader.proofs.next as next
+use Rattle.reader.proofs.next.Symbol as next-def
+use Rattle.reader.proofs.next.Symbol.{name as #next}
+use Rattle.reader.proofs.next.Met as next-thm
+use Rattle.reader.proofs.step.Key.{name as #step}
+use Rattle.reader.proofs.step as step
+use Rattle.reader.proofs.step.Statement as stated
+use Rattle.reader.proofs.step.Code as code
 
 abbrev kept : Stays (step.ended .signature .params) (step.ended .kept)
 kept = (stay-none-slice (0 ∷ []) tt (plain (λ _. u8)) yes, (stay-none (λ _. usize) yes, tt))
@@ -112,4 +112,4 @@ step-spec 𝓤 H 𝓜 𝓖 𝓡 =
     handed 𝓤 H 𝓜 𝓖 𝓡 code.env step.ended kept (step.clauses 𝓤 H (𝓖 .A) (𝓜 .mem) (𝓡 .run)) #step code.function (code.unfolded 𝓤 H 𝓜 𝓡) (goes-none-slice 𝓤 H (𝓖 .A) W 1 (0 ∷ []) tt (plain (λ _. u8)) yes, (goes-none 𝓤 H (𝓖 .A) W 1 (λ _. usize) yes (λ κs x f. refl), tt))
     (λ κs. (slice-vals, (uint-vals w64, tt))) (λ κs. (shr-slice-tells (named 0) (κs .0) u8, (uint-tells w64, tt)))
     (λ κs qs bounds a g are. walk 𝓤 H (𝓖 .A) (𝓜 .mem) (𝓡 .run) W (κs .0) (qs .0) (a .0) (a .1 .0) (are .1 .0 .1) _ _ (calls-frame 𝓤 H 𝓜 𝓖 𝓡 code.env)
-    (cited 𝓤 H (promise 𝓤 H (𝓖 .A) next.ended ψ) 𝓜 𝓡 code.env #next next-def.routine code.calls-trace·reader·next (next-thm.met 𝓤 H 𝓜 𝓖 𝓡)) (shr-slice-lawful 𝓤 H (𝓖 .A) W (named 0) (κs .0) u8 .typed (a .0) _ (are .0) .0 .1))
+    (cited 𝓤 H (promise 𝓤 H (𝓖 .A) next.ended ψ) 𝓜 𝓡 code.env #next next-def.routine code.calls-reader·next (next-thm.met 𝓤 H 𝓜 𝓖 𝓡)) (shr-slice-lawful 𝓤 H (𝓖 .A) W (named 0) (κs .0) u8 .typed (a .0) _ (are .0) .0 .1))

@@ -1,17 +1,17 @@
 -- `reader::left` meets its contract: a walk of its MIR, by hand. The struct is taken apart, and `left_at` is called on the slice and the place. All that the proof knows of `left_at` is that it meets its contract.
 -- Assumes nothing.
-use Rattle.trace.proofs.Walks.{_≡_, refl, [], _∷_, Holds, URA, named, WT, hasTy, SProp, ent, Lft, Share, Heap, Calls, Loops, WpFn, Atoms, givenOf, Given, ‵, raw, _⊛_, _$_, _∵_, !, qed, by, move, use1, split, whole, sub, look-in, look, init, forget, stop, fld, from, load, of-opd, and-then, no-more, assigns, land, returns, enter, alloc1, alloc0, params1, pass1, pass0, free1, free0, FmC, Is, u8, now, Slot, shr-slice-lawful, Triple, calls-at, cited, emp, factI, Fun, Memory, Routine, B, Own, Fact, promise, calls-frame, answered, Entry, Post, exits, handed-reader, OverBytes, to, apart}
-use Rattle.trace.specs.declared.reader.Reader.{Reader}
-use Rattle.trace.specs.Reader.{leftAt}
-use Rattle.trace.proofs.reader.Reader.Laws as T′
-use Rattle.trace.proofs.reader.left_at as left-at
-use Rattle.trace.proofs.reader.left_at.Symbol as left-at-def
-use Rattle.trace.proofs.reader.left_at.Symbol.{name as #left-at}
-use Rattle.trace.proofs.reader.left_at.Met as left-at-thm
-use Rattle.trace.proofs.reader.left.Key.{name as #left}
-use Rattle.trace.proofs.reader.left as left
-use Rattle.trace.proofs.reader.left.Statement as stated
-use Rattle.trace.proofs.reader.left.Code as code
+use Rattle.reader.proofs.Walks.{_≡_, refl, [], _∷_, Holds, URA, named, WT, hasTy, SProp, ent, Lft, Share, Heap, Calls, Loops, WpFn, Atoms, givenOf, Given, ‵, raw, _⊛_, _$_, _∵_, !, qed, by, move, use1, split, whole, sub, look-in, look, init, forget, stop, fld, from, load, of-opd, and-then, no-more, assigns, land, returns, enter, alloc1, alloc0, params1, pass1, pass0, free1, free0, FmC, Is, u8, now, Slot, shr-slice-lawful, Triple, calls-at, cited, emp, factI, Fun, Memory, Routine, B, Own, Fact, promise, calls-frame, answered, Entry, Post, exits, handed-reader, OverBytes, to, apart}
+use Rattle.reader.specs.declared.Reader.{Reader}
+use Rattle.reader.specs.Reader.{leftAt}
+use Rattle.reader.proofs.Reader.Laws as T′
+use Rattle.reader.proofs.left_at as left-at
+use Rattle.reader.proofs.left_at.Symbol as left-at-def
+use Rattle.reader.proofs.left_at.Symbol.{name as #left-at}
+use Rattle.reader.proofs.left_at.Met as left-at-thm
+use Rattle.reader.proofs.left.Key.{name as #left}
+use Rattle.reader.proofs.left as left
+use Rattle.reader.proofs.left.Statement as stated
+use Rattle.reader.proofs.left.Code as code
 
 -- the part that is handed back
 abbrev res : Slot 1
@@ -43,4 +43,4 @@ unfolding code.routine
 left-spec 𝓤 H 𝓜 𝓖 𝓡 =
     handed-reader 𝓤 H 𝓜 𝓖 𝓡 code.env res (left.clauses 𝓤 H (𝓖 .A) (𝓜 .mem) (𝓡 .run)) #left code.function (code.unfolded 𝓤 H 𝓜 𝓡)
     (λ κ q d g. walk 𝓤 H (𝓖 .A) (𝓜 .mem) (𝓡 .run) (givenOf 𝓤 H 𝓜 𝓖) _ _ (calls-frame 𝓤 H 𝓜 𝓖 𝓡 code.env)
-    (cited 𝓤 H (promise 𝓤 H (𝓖 .A) (OverBytes res) ψ) 𝓜 𝓡 code.env #left-at left-at-def.routine code.calls-trace·reader·left-at (left-at-thm.met 𝓤 H 𝓜 𝓖 𝓡)) κ q d)
+    (cited 𝓤 H (promise 𝓤 H (𝓖 .A) (OverBytes res) ψ) 𝓜 𝓡 code.env #left-at left-at-def.routine code.calls-reader·left-at (left-at-thm.met 𝓤 H 𝓜 𝓖 𝓡)) κ q d)

@@ -1,24 +1,24 @@
 -- `reader::next` meets its contract: a walk of its MIR, by hand. The struct is taken apart, `step_at` is called on the slice and the place, and of its answer and the slice the reading and the reader moved on are put together. All that the proof knows of `step_at` is that it meets its contract.
 -- Assumes nothing.
-use Rattle.trace.proofs.Walks.{_≡_, refl, ap, _<_, _^_, [], _∷_, Holds, URA, fullShare, named, w64, Val, WT, hasTy, SProp, ent, Lft, Share, ftrue, flft, fat, Heap, Calls, Loops, WpFn, Atoms, givenOf, Given, ‵, raw, _⊛_, given, ⋆, _$_, _∵_, !, qed, by, move, drop, use1, use2, rewrite, split, learn, fsplit, fjoin, suffices, done, whole, sub, look-in, agg, look, init, forget, stop, fld, from, load, of-opd, and-then, no-more, assigns, land, returns, enter, alloc1, alloc0, params1, pass1, pass0, free1, free0, FmC, Is, uint-makes, usize, now, Slot, only, owned, nothing, all-own, own-open, own-put, own-shut, Triple, calls-at, cited, emp, factI, Fun, Memory, Routine, α, D, L, B, Own, Fact, promise, calls-frame, answered, Entry, Post, exits, handed-reader, OverBytes, to, copied, apart}
+use Rattle.reader.proofs.Walks.{_≡_, refl, ap, _<_, _^_, [], _∷_, Holds, URA, fullShare, named, w64, Val, WT, hasTy, SProp, ent, Lft, Share, ftrue, flft, fat, Heap, Calls, Loops, WpFn, Atoms, givenOf, Given, ‵, raw, _⊛_, given, ⋆, _$_, _∵_, !, qed, by, move, drop, use1, use2, rewrite, split, learn, fsplit, fjoin, suffices, done, whole, sub, look-in, agg, look, init, forget, stop, fld, from, load, of-opd, and-then, no-more, assigns, land, returns, enter, alloc1, alloc0, params1, pass1, pass0, free1, free0, FmC, Is, uint-makes, usize, now, Slot, only, owned, nothing, all-own, own-open, own-put, own-shut, Triple, calls-at, cited, emp, factI, Fun, Memory, Routine, α, D, L, B, Own, Fact, promise, calls-frame, answered, Entry, Post, exits, handed-reader, OverBytes, to, copied, apart}
 use denote.Struct.Laws as LL
-use Rattle.trace.specs.declared.reader.Reader.{Reader}
-use Rattle.trace.specs.declared.reader.Moved.{Moved}
-use Rattle.trace.specs.declared.reader.Stepped.{Stepped}
-use Rattle.trace.specs.Reader.{stepAt, saidStepped}
-use Rattle.trace.proofs.reader.Reader.Laws as T′
-use Rattle.trace.proofs.reader.Moved as N
-use Rattle.trace.proofs.reader.Moved.Laws as N′
-use Rattle.trace.proofs.reader.Stepped as S
-use Rattle.trace.proofs.reader.Stepped.Laws as S′
-use Rattle.trace.proofs.reader.step_at as step-at
-use Rattle.trace.proofs.reader.step_at.Symbol as step-at-def
-use Rattle.trace.proofs.reader.step_at.Symbol.{name as #step-at}
-use Rattle.trace.proofs.reader.step_at.Met as step-at-thm
-use Rattle.trace.proofs.reader.next.Key.{name as #next}
-use Rattle.trace.proofs.reader.next as next
-use Rattle.trace.proofs.reader.next.Statement as stated
-use Rattle.trace.proofs.reader.next.Code as code
+use Rattle.reader.specs.declared.Reader.{Reader}
+use Rattle.reader.specs.declared.Moved.{Moved}
+use Rattle.reader.specs.declared.Stepped.{Stepped}
+use Rattle.reader.specs.Reader.{stepAt, saidStepped}
+use Rattle.reader.proofs.Reader.Laws as T′
+use Rattle.reader.proofs.Moved as N
+use Rattle.reader.proofs.Moved.Laws as N′
+use Rattle.reader.proofs.Stepped as S
+use Rattle.reader.proofs.Stepped.Laws as S′
+use Rattle.reader.proofs.step_at as step-at
+use Rattle.reader.proofs.step_at.Symbol as step-at-def
+use Rattle.reader.proofs.step_at.Symbol.{name as #step-at}
+use Rattle.reader.proofs.step_at.Met as step-at-thm
+use Rattle.reader.proofs.next.Key.{name as #next}
+use Rattle.reader.proofs.next as next
+use Rattle.reader.proofs.next.Statement as stated
+use Rattle.reader.proofs.next.Code as code
 
 -- what is handed back, and the answer of the callee
 abbrev res : Slot 1
@@ -87,4 +87,4 @@ unfolding code.routine
 next-spec 𝓤 H 𝓜 𝓖 𝓡 =
     handed-reader 𝓤 H 𝓜 𝓖 𝓡 code.env res (next.clauses 𝓤 H (𝓖 .A) (𝓜 .mem) (𝓡 .run)) #next code.function (code.unfolded 𝓤 H 𝓜 𝓡)
     (λ κ q d g. walk 𝓤 H (𝓖 .A) (𝓜 .mem) (𝓡 .run) (givenOf 𝓤 H 𝓜 𝓖) _ _ (calls-frame 𝓤 H 𝓜 𝓖 𝓡 code.env)
-    (cited 𝓤 H (promise 𝓤 H (𝓖 .A) (OverBytes mid) ψ) 𝓜 𝓡 code.env #step-at step-at-def.routine code.calls-trace·reader·step-at (step-at-thm.met 𝓤 H 𝓜 𝓖 𝓡)) κ q d)
+    (cited 𝓤 H (promise 𝓤 H (𝓖 .A) (OverBytes mid) ψ) 𝓜 𝓡 code.env #step-at step-at-def.routine code.calls-reader·step-at (step-at-thm.met 𝓤 H 𝓜 𝓖 𝓡)) κ q d)

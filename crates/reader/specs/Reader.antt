@@ -5,10 +5,10 @@ use lib.ListN.{length, drop}
 use denote.Ref.{RefT, now}
 use Rattle.rules.specs.Answers.{Said, refused, gives, Got, saidReading}
 use Rattle.rules.specs.Events.{readOf, unreadOf}
-use Rattle.trace.specs.declared.reader.Reader.{Reader}
-use Rattle.trace.specs.declared.reader.Moved.{Moved}
-use Rattle.trace.specs.declared.reader.Stepped.{Stepped}
-use Rattle.trace.specs.declared.reader.Front.{Front}
+use Rattle.reader.specs.declared.Reader.{Reader}
+use Rattle.reader.specs.declared.Moved.{Moved}
+use Rattle.reader.specs.declared.Stepped.{Stepped}
+use Rattle.reader.specs.declared.Front.{Front}
 
 -- what stands from a place on: nothing, where the place is beyond the bytes
 abbrev pub leftAt : (bytes : List ℕ) (at : ℕ) → List ℕ

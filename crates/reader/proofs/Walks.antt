@@ -68,9 +68,9 @@ use contract.Lifetimes.{Lfts, Shares, AllOutlive}
 use denote.Struct.Declared.{Declared}
 use denote.Triple.Clauses.{Ended, Clauses, Lasts, atExit, lasts, closing, ensured}
 use denote.Struct.Laws as LL
-use Rattle.trace.specs.declared.reader.Reader.{Reader}
-use Rattle.trace.proofs.reader.Reader as T
-use Rattle.trace.proofs.reader.Reader.Laws as T′
+use Rattle.reader.specs.declared.Reader.{Reader}
+use Rattle.reader.proofs.Reader as T
+use Rattle.reader.proofs.Reader.Laws as T′
 
 -- the struct at the signature's one lifetime
 abbrev pub α : Lft → NamedLft

@@ -1,13 +1,13 @@
 -- `reader::new` meets its contract: a walk of its MIR, by hand. A `Reader` is made of the slice passed and 0, in the result's local.
 -- A `&[u8]` is Copy, so what it owns is had twice: once for src at exit, and once inside the result, beside the facts of at.
 -- Assumes nothing.
-use Rattle.trace.proofs.Walks.{refl, ℕ, List, [], _∷_, lit<, URA, named, w64, WT, SProp, ent, Lft, Share, Fml, ftrue, flft, Heap, Calls, Loops, WpFn, Atoms, givenOf, Given, ‵, raw, _⊛_, _$_, _∵_, !, qed, by, move, use1, split, fsplit, fjoin, suffices, frame, agg, look, init, forget, stop, from, load, lit, and-then, no-more, assigns, returns, enter, alloc1, alloc0, params1, pass1, pass0, free1, free0, owns, Is, uint-makes, u8, usize, RefT, plain, slice-vals, shr-slice-tells, shr-slice-lawful, shr-slice-copy, owned, nothing, own-shut, onEntry, Stays, stay-none-slice, goes-none-slice, yes, emp, factI, Fun, Memory, Routine, walkOf, D, L, Slice, v, ends, handed}
-use Rattle.trace.specs.declared.reader.Reader.{Reader}
-use Rattle.trace.proofs.reader.Reader.Laws as T′
-use Rattle.trace.proofs.reader.new.Key.{name as #new}
-use Rattle.trace.proofs.reader.new as new
-use Rattle.trace.proofs.reader.new.Statement as stated
-use Rattle.trace.proofs.reader.new.Code as code
+use Rattle.reader.proofs.Walks.{refl, ℕ, List, [], _∷_, lit<, URA, named, w64, WT, SProp, ent, Lft, Share, Fml, ftrue, flft, Heap, Calls, Loops, WpFn, Atoms, givenOf, Given, ‵, raw, _⊛_, _$_, _∵_, !, qed, by, move, use1, split, fsplit, fjoin, suffices, frame, agg, look, init, forget, stop, from, load, lit, and-then, no-more, assigns, returns, enter, alloc1, alloc0, params1, pass1, pass0, free1, free0, owns, Is, uint-makes, u8, usize, RefT, plain, slice-vals, shr-slice-tells, shr-slice-lawful, shr-slice-copy, owned, nothing, own-shut, onEntry, Stays, stay-none-slice, goes-none-slice, yes, emp, factI, Fun, Memory, Routine, walkOf, D, L, Slice, v, ends, handed}
+use Rattle.reader.specs.declared.Reader.{Reader}
+use Rattle.reader.proofs.Reader.Laws as T′
+use Rattle.reader.proofs.new.Key.{name as #new}
+use Rattle.reader.proofs.new as new
+use Rattle.reader.proofs.new.Statement as stated
+use Rattle.reader.proofs.new.Code as code
 
 abbrev kept : Stays (new.ended .signature .params) (new.ended .kept)
 kept = (stay-none-slice (0 ∷ []) tt (plain (λ _. u8)) yes, tt)

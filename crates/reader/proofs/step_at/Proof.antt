@@ -5,9 +5,9 @@ use lib.ListN.{length-drop}
 use denote.Ref.{now}
 use Rattle.rules.specs.Answers.{saidReading}
 use Rattle.rules.proofs.Events.{got, taken}
-use Rattle.trace.specs.Reader.{readAt}
-use Rattle.trace.proofs.reader.step_at.Statement.{statement}
-use Rattle.trace.proofs.reader.step_at.Tie as tie
+use Rattle.reader.specs.Reader.{readAt}
+use Rattle.reader.proofs.step_at.Statement.{statement}
+use Rattle.reader.proofs.step_at.Tie as tie
 
 left-at-requires : tie.Need-left-at-requires
 left-at-requires c κs = search needs

@@ -1,0 +1,26 @@
+-- Each promise decides the answer and all that is handed back or lent: any two that it allows coincide. Assumes nothing.
+use mathlib.Core.Path.{_≡_, sym, ap, _∙_}
+use Prim.Native.Nat.{ℕ}
+use mathlib.Core.List.{List}
+use denote.Ref.{RefT, now}
+use Rattle.rules.proofs.Answers.{reading-injective}
+use Rattle.reader.specs.declared.Reader.{Reader}
+use Rattle.reader.specs.declared.Moved.{Moved}
+use Rattle.reader.specs.declared.Front.{Front}
+use Rattle.reader.specs.Reader.{leftAt, begun, nextOf, saidMoved, frontOf}
+
+pub new-once : (src : RefT (List ℕ)) (a b : Reader) → a ≡ begun src → b ≡ begun src → a ≡ b
+new-once src a b p q = p ∙ sym q
+
+pub next-once : (r : Reader) (a b : Moved) → saidMoved a ≡ nextOf r → saidMoved b ≡ nextOf r → a ≡ b
+next-once r a b p q =
+    let k = p ∙ sym q in
+    let reading = reading-injective (a .reading) (b .reading) (ap (λ z. z .said) k) in
+    let reader = ap (λ z. z .reader) k in
+    λ i. record { reading = reading i; reader = reader i }
+
+pub left-once : (r : Reader) (a b : List ℕ) → a ≡ leftAt (now (r .src)) (r .at) → b ≡ leftAt (now (r .src)) (r .at) → a ≡ b
+left-once r a b p q = p ∙ sym q
+
+pub whole-events-once : (bytes : List ℕ) (a b : Front) → a ≡ frontOf bytes → b ≡ frontOf bytes → a ≡ b
+whole-events-once bytes a b p q = p ∙ sym q
