@@ -271,21 +271,21 @@ fn number_written(answer: Written) -> u64
 pub extern "C" fn rockgingham_write_location(location: u64, buffer: &mut [u8]) -> u64
     ensures { λ r. ⌜ given r (now (buffer .exit)) ≡ writeIn (Event.Location location) (now (buffer .entry)) ⌝ }
 {
-    number_written(trace::write(Event::Location(location), buffer))
+    number_written(writing::write(Event::Location(location), buffer))
 }
 
 #[no_mangle]
 pub extern "C" fn rockgingham_write_span(offset: u64, length: u32, buffer: &mut [u8]) -> u64
     ensures { λ r. ⌜ given r (now (buffer .exit)) ≡ writeIn (Event.Span offset length) (now (buffer .entry)) ⌝ }
 {
-    number_written(trace::write(Event::Span { offset, length }, buffer))
+    number_written(writing::write(Event::Span { offset, length }, buffer))
 }
 
 #[no_mangle]
 pub extern "C" fn rockgingham_write_restart(buffer: &mut [u8]) -> u64
     ensures { λ r. ⌜ given r (now (buffer .exit)) ≡ writeIn Event.Restart (now (buffer .entry)) ⌝ }
 {
-    number_written(trace::write(Event::Restart, buffer))
+    number_written(writing::write(Event::Restart, buffer))
 }
 
 #[no_mangle]
@@ -306,5 +306,5 @@ pub extern "C" fn rockgingham_write_setup(
         buckets,
         kind,
     };
-    number_written(trace::write(Event::Setup(body), buffer))
+    number_written(writing::write(Event::Setup(body), buffer))
 }

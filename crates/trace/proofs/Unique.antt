@@ -1,22 +1,14 @@
 -- Each promise decides the answer and all that is handed back or lent: any two that it allows coincide. Assumes nothing.
-use mathlib.Core.Path.{_≡_, sym, ap, _∙_}
+use mathlib.Core.Path.{_≡_, sym, _∙_}
 use Prim.Native.Nat.{ℕ}
 use mathlib.Core.List.{List}
-use Rattle.rules.specs.declared.Event.{Event}
 use Rattle.rules.specs.declared.Reading.{Reading}
-use Rattle.rules.specs.declared.Written.{Written}
 use Rattle.rules.specs.Answers.{saidReading}
-use Rattle.rules.specs.Events.{readOf, unreadOf, writeOf, afterWritten}
-use Rattle.rules.proofs.Answers.{reading-injective, written-injective}
+use Rattle.rules.specs.Events.{readOf, unreadOf}
+use Rattle.rules.proofs.Answers.{reading-injective}
 
 pub read-once : (bytes : List ℕ) (a b : Reading) → saidReading a ≡ readOf bytes → saidReading b ≡ readOf bytes → a ≡ b
 read-once bytes a b p q = reading-injective a b (p ∙ sym q)
 
 pub unread-once : (bytes a b : List ℕ) → a ≡ unreadOf bytes → b ≡ unreadOf bytes → a ≡ b
 unread-once bytes a b p q = p ∙ sym q
-
-pub write-once : (event : Event) (buffer : List ℕ) (a b : Written) (afterA afterB : List ℕ)
-    → afterWritten a afterA ≡ writeOf event buffer → afterWritten b afterB ≡ writeOf event buffer → (a ≡ b) × (afterA ≡ afterB)
-write-once event buffer a b afterA afterB p q =
-    let k = p ∙ sym q in
-    (written-injective a b (ap (λ z. z .said) k), ap (λ z. z .buffer) k)

@@ -1,7 +1,7 @@
 use borrow.Author.Needs.{needs}
 use native.Mathlib.Nat.{mod-eq-of-lt}
-use Rattle.trace.proofs.put_one.Statement.{statement}
-use Rattle.trace.proofs.put_one.Tie as tie
+use Rattle.writing.proofs.put_one.Statement.{statement}
+use Rattle.writing.proofs.put_one.Tie as tie
 
 slice-write-buffer : tie.Need-slice-write-buffer
 slice-write-buffer c = search needs

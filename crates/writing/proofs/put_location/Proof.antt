@@ -1,6 +1,6 @@
 use borrow.Author.Needs.{needs}
-use Rattle.trace.proofs.put_location.Statement.{statement}
-use Rattle.trace.proofs.put_location.Tie as tie
+use Rattle.writing.proofs.put_location.Statement.{statement}
+use Rattle.writing.proofs.put_location.Tie as tie
 
 put-one-requires : tie.Need-put-one-requires
 put-one-requires c κs = search needs

@@ -1,7 +1,7 @@
 use borrow.Author.Needs.{needs}
 use Rattle.rules.proofs.LittleEndian.{puts-two}
-use Rattle.trace.proofs.put_four.Statement.{statement}
-use Rattle.trace.proofs.put_four.Tie as tie
+use Rattle.writing.proofs.put_four.Statement.{statement}
+use Rattle.writing.proofs.put_four.Tie as tie
 
 cast-put-two : tie.Need-cast-put-two
 cast-put-two c = search needs

@@ -1,6 +1,6 @@
 use borrow.Author.Needs.{needs}
-use Rattle.trace.proofs.put.Statement.{statement}
-use Rattle.trace.proofs.put.Tie as tie
+use Rattle.writing.proofs.put.Statement.{statement}
+use Rattle.writing.proofs.put.Tie as tie
 
 enum-known-event : tie.Need-enum-known-event
 enum-known-event c = search needs

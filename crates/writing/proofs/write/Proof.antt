@@ -5,8 +5,8 @@ use lib.ListN.{length}
 use denote.Ref.{now}
 use Rattle.rules.specs.Events.{eventLength}
 use Rattle.rules.proofs.Events.{write-short, write-puts}
-use Rattle.trace.proofs.write.Statement.{statement}
-use Rattle.trace.proofs.write.Tie as tie
+use Rattle.writing.proofs.write.Statement.{statement}
+use Rattle.writing.proofs.write.Tie as tie
 
 size-requires : tie.Need-size-requires
 size-requires c κs = search needs

@@ -1,7 +1,7 @@
 use borrow.Author.Needs.{needs}
 use Rattle.rules.proofs.LittleEndian.{puts-two}
-use Rattle.trace.proofs.put_eight.Statement.{statement}
-use Rattle.trace.proofs.put_eight.Tie as tie
+use Rattle.writing.proofs.put_eight.Statement.{statement}
+use Rattle.writing.proofs.put_eight.Tie as tie
 
 cast-put-four : tie.Need-cast-put-four
 cast-put-four c = search needs

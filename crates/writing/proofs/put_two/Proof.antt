@@ -1,7 +1,7 @@
 use borrow.Author.Needs.{needs}
 use Rattle.rules.proofs.LittleEndian.{puts-two}
-use Rattle.trace.proofs.put_two.Statement.{statement}
-use Rattle.trace.proofs.put_two.Tie as tie
+use Rattle.writing.proofs.put_two.Statement.{statement}
+use Rattle.writing.proofs.put_two.Tie as tie
 
 cast-put-one : tie.Need-cast-put-one
 cast-put-one c = search needs
