@@ -45,6 +45,15 @@ pub read-other : (s : List ℕ) → (length s ≡ 0 → ⊥) → (getD s 0 0 ≡
 unfolding readOf
 read-other s any a b c d = simp (ne-eqb _ _ any, ne-eqb _ _ a, ne-eqb _ _ b, ne-eqb _ _ c, ne-eqb _ _ d)
 
+-- ---- an event with all its bytes there, or with too few
+
+module _ (n : ℕ) (s : List ℕ) where
+  pub whole-fits : {e f : Event} → e ≡ f → n ≤ length s → got e n ≡ whole n f s
+  whole-fits is h = simp (le-leb _ _ h) (ap (λ z. got z n) is)
+
+  pub whole-short : (e : Event) → length s < n → refused 7 ≡ whole n e s
+  whole-short e h = simp (lt-leb _ _ h)
+
 -- ---- what holds of any reading
 
 by-cond : {A : Type 0} (P : A → Type 0) (b : Bool) {x y : A} → (b ≡ true → P x) → (b ≡ false → P y) → P (cond b x y)
@@ -95,6 +104,10 @@ module _ (e : Event) (buffer : List ℕ) where
   write-puts h =
       let puts : sets buffer 0 (eventBytes e) ≡ over (eventBytes e) buffer = sets-eq (eventBytes e) buffer 0 (omega arith) ∙ simp zero-add in
       rw puts (write-fits h)
+
+  -- and a buffer in which they are put, with their number answered, is what writing leaves
+  pub write-done : {n : ℕ} {after : List ℕ} → n ≡ eventLength e → n ≤ length buffer → after ≡ sets buffer 0 (eventBytes e) → afterWritten (written.Filled n) after ≡ writeOf e buffer
+  write-done size fits put = rw (size, put) (sym (write-puts (rw size at fits)))
 
   -- where something was filled it is the event, over the front of the buffer
   pub write-filled : (n : ℕ) (after : List ℕ) → afterWritten (written.Filled n) after ≡ writeOf e buffer → (n ≡ eventLength e) × (after ≡ over (eventBytes e) buffer)

@@ -1,8 +1,8 @@
 use borrow.Author.Needs.{needs}
 use native.Mathlib.Nat.{pos-of-ne-zero}
-use borrow.Author.Tests.{le-leb}
-use mathlib.Core.Path.{sym, _∙_}
-use Rattle.rules.proofs.Events.{read-empty, read-kind, read-other}
+use mathlib.Core.Path.{refl, sym, _∙_}
+use denote.Ref.{now}
+use Rattle.rules.proofs.Events.{read-empty, read-kind, read-other, whole-fits}
 use Rattle.trace.proofs.read.Statement.{statement}
 use Rattle.trace.proofs.read.Tie as tie
 
@@ -30,7 +30,7 @@ returns-3 c = c .read-span .ensures ∙ sym (read-kind 2 _ (c .before .before .b
 returns-4 : tie.Need-returns-4
 returns-4 c =
     let any = c .before .before .if1 .left in
-    rw (read-kind 3 _ any (c .match .keys3)) (simp (le-leb _ _ (pos-of-ne-zero any)))
+    whole-fits 1 (now (c .before .before .before .before .args .bytes)) refl (pos-of-ne-zero any) ∙ sym (read-kind 3 _ any (c .match .keys3))
 
 returns-5 : tie.Need-returns-5
 returns-5 c = c .read-setup .ensures ∙ sym (read-kind 4 _ (c .before .before .before .if1 .left) (c .before .match .keys4))

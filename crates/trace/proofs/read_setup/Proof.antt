@@ -1,13 +1,13 @@
 use borrow.Author.Needs.{needs}
 use native.Mathlib.Omega.{arith}
-use lib.ListN.{length}
 use denote.Ref.{now}
-use borrow.Author.Tests.{lt-leb, le-leb}
+use Rattle.rules.specs.declared.Event.the-variants.{Setup}
+use Rattle.rules.proofs.Events.{whole-fits, whole-short}
 use Rattle.trace.proofs.read_setup.Statement.{statement}
 use Rattle.trace.proofs.read_setup.Tie as tie
 
 returns : tie.Need-returns
-returns c = simp (lt-leb 18 (length (now (c .before .before .args .bytes))) (omega arith))
+returns c = whole-short 18 (now (c .before .before .args .bytes)) _ (omega arith)
 
 four-at-requires : tie.Need-four-at-requires
 four-at-requires c κs = search needs
@@ -25,7 +25,14 @@ one-at-requires : tie.Need-one-at-requires
 one-at-requires c κs = search needs
 
 returns-2 : tie.Need-returns-2
-returns-2 c = simp (le-leb _ _ (c .before .before .before .before .before .if1 .left)) (cc)
+returns-2 c =
+    let d = c .before .before .before .before .before in
+    let limit = c .before .before .before .before .four-at .ensures in
+    let start = c .before .before .before .four-at2 .ensures in
+    let width = c .before .before .four-at3 .ensures in
+    let buckets = c .before .four-at4 .ensures in
+    let kind = c .one-at .ensures in
+    whole-fits 18 (now (d .before .before .args .bytes)) (λ i. Setup (record { limit = limit i; start = start i; width = width i; buckets = buckets i; kind = kind i })) (d .if1 .left)
 
 pub read-setup-spec : {M : Type 1} → statement M
 read-setup-spec =

@@ -1,5 +1,6 @@
 use borrow.Author.Needs.{needs}
 use mathlib.Core.Path.{sym, ap, _∙_}
+use native.Mathlib.Omega.{arith}
 use Rattle.rules.specs.Answers.{saidReading}
 use Rattle.rules.proofs.Events.{got-taken}
 use Rattle.trace.proofs.unread.Statement.{statement}
@@ -12,7 +13,7 @@ enum-known-taken : tie.Need-enum-known-taken
 enum-known-taken c = search needs
 
 rest-requires : tie.Need-rest-requires
-rest-requires c κs = got-taken _ (c .before .before .before .read .ensures) (c .before .taken .given .1) .1
+rest-requires c κs = omega (arith, got-taken _ (c .before .before .before .read .ensures) (c .before .taken .given .1))
 
 enum-told : tie.Need-enum-told
 enum-told c = search needs

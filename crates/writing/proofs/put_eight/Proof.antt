@@ -1,5 +1,6 @@
 use borrow.Author.Needs.{needs}
-use Rattle.rules.proofs.LittleEndian.{puts-two}
+use denote.Ref.{now}
+use Rattle.writing.proofs.Laws.{halves}
 use Rattle.writing.proofs.put_eight.Statement.{statement}
 use Rattle.writing.proofs.put_eight.Tie as tie
 
@@ -22,7 +23,10 @@ same-length : tie.Need-same-length
 same-length c = search needs
 
 returns : tie.Need-returns
-returns c = cc (puts-two 4 4 _ _ _)
+returns c =
+    let first = c .before .before .before .before .before .before in
+    let a = first .before .before .before .args in
+    halves 4 4 (a .at) (a .x) (now (a .buffer)) (first .put-four .ensures) (c .before .before .put-four2 .ensures)
 
 pub put-eight-spec : {M : Type 1} → statement M
 put-eight-spec =

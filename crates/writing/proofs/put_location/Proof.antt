@@ -1,4 +1,6 @@
 use borrow.Author.Needs.{needs}
+use Rattle.rules.specs.Events.{bytesOf}
+use Rattle.writing.proofs.Laws.{then}
 use Rattle.writing.proofs.put_location.Statement.{statement}
 use Rattle.writing.proofs.put_location.Tie as tie
 
@@ -12,7 +14,10 @@ same-length : tie.Need-same-length
 same-length c = search needs
 
 returns : tie.Need-returns
-returns c = cc
+returns c =
+    let first = c .before .before .before .before .before .before in
+    let a = first .before .before .before .args in
+    then 1 (bytesOf 8 (a .location)) (first .put-one .ensures) (c .before .before .put-eight .ensures)
 
 pub put-location-spec : {M : Type 1} → statement M
 put-location-spec = tie.close (tie.spec put-one-requires put-eight-requires same-length returns)

@@ -1,4 +1,6 @@
 use borrow.Author.Needs.{needs}
+use Rattle.rules.specs.Events.{bytesOf}
+use Rattle.writing.proofs.Laws.{then}
 use Rattle.writing.proofs.put_span.Statement.{statement}
 use Rattle.writing.proofs.put_span.Tie as tie
 
@@ -15,7 +17,12 @@ same-length : tie.Need-same-length
 same-length c = search needs
 
 returns : tie.Need-returns
-returns c = cc
+returns c =
+    let second = c .before .before .before .before .before .before in
+    let first = second .before .before .before .before in
+    let a = first .before .before .before .args in
+    let offset = then 1 (bytesOf 8 (a .offset)) (first .put-one .ensures) (second .put-eight .ensures) in
+    then 9 (bytesOf 4 (a .bytes)) offset (c .before .before .put-four .ensures)
 
 pub put-span-spec : {M : Type 1} → statement M
 put-span-spec =

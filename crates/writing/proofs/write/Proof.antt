@@ -1,10 +1,10 @@
 use borrow.Author.Needs.{needs}
-use Prim.Native.Nat.{_≤_, _<_}
+use Prim.Native.Nat.{_<_}
 use mathlib.Core.Path.{sym}
 use lib.ListN.{length}
 use denote.Ref.{now}
 use Rattle.rules.specs.Events.{eventLength}
-use Rattle.rules.proofs.Events.{write-short, write-puts}
+use Rattle.rules.proofs.Events.{write-short, write-done}
 use Rattle.writing.proofs.write.Statement.{statement}
 use Rattle.writing.proofs.write.Tie as tie
 
@@ -27,8 +27,7 @@ returns-2 : tie.Need-returns-2
 returns-2 c =
     let d = c .before .before .before .before in
     let a = d .before .before .before .args in
-    let fits : eventLength (a .event) ≤ length (now (a .buffer)) = rw (← d .before .size .ensures) (d .if1 .left) in
-    cc (write-puts (a .event) (now (a .buffer)) fits)
+    write-done (a .event) (now (a .buffer)) (d .before .size .ensures) (d .if1 .left) (c .before .before .put .ensures)
 
 pub write-spec : {M : Type 1} → statement M
 write-spec = tie.close (tie.spec size-requires returns put-requires same-length returns-2)
