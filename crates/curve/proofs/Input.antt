@@ -1,27 +1,30 @@
 -- The input in pieces, each read behind what was left of the one before: what was fed is the input so far. Assumes nothing.
 use Prim.Native.Nat.{ℕ, _+_, _-_, _≤_, _<_}
 use mathlib.Core.Path.{_≡_, refl, sym, ap, subst, _∙_}
-use mathlib.Core.Bool.{cond}
+use mathlib.Core.Bool.{Bool, false, cond}
 use mathlib.Core.List.{List, [], _++_}
 use native.Mathlib.Omega.{arith}
 use lib.Dec.{ltb}
-use lib.ListN.{length, take, drop, length-drop}
+use lib.ListN.{length, take, drop, length-append, length-drop}
 use lib.Seq.{drop-append-le, drop-drop, take-add}
 use borrow.Author.Tests.{lt-ltb, le-ltb}
 use Rattle.rules.specs.declared.Refusal.{Refusal}
 use Rattle.rules.specs.declared.Refusal.the-variants as refusal
 use Rattle.rules.specs.Answers.{Said, refused, gives, number}
 use Rattle.rules.specs.declared.Record.{Record}
-use Rattle.rules.specs.Settings.{Tables}
+use Rattle.rules.specs.Lists.{over}
+use Rattle.rules.specs.Settings.{Histogram, Tables}
 use Rattle.rules.specs.Refusals.{Held, Beginning, setupOf}
+use Rattle.rules.proofs.Tests.{or-neither}
+use Rattle.rules.proofs.Tables.{over-front}
 use Rattle.feed.specs.declared.Ending.{Ending}
 use Rattle.feed.specs.declared.Ending.the-variants as ending
-use Rattle.feed.specs.Feed.{End, whole, inside, Feeding, further, saidEnding, feedOf}
+use Rattle.feed.specs.Feed.{End, whole, inside, Feeding, saidEnding, feedOf}
 use Rattle.feed.proofs.Laws.{feed-none}
 use Rattle.feed.proofs.Pieces.{Untaken, untaken, taken-within, pieces}
-use Rattle.curve.specs.Text.{refusedLine, curveText, Adds}
+use Rattle.text.specs.Text.{refusedLine, curveText, placed, frontOr, curveIn, refusedIn}
 use Rattle.curve.specs.declared.Done.{Done}
-use Rattle.curve.specs.Program.{firstSettings, refusalIn, endText, textFrom, textAfter, textOver, Prints, Telling}
+use Rattle.curve.specs.Program.{firstSettings, refusalIn, endText, textFrom, textAfter, textOver, Stands, Prints, Telling, Reached, Follows}
 
 -- ---- what feeding ended with
 
@@ -50,30 +53,47 @@ a-refusal ending.Whole q h = absurd (omega arith)
 a-refusal ending.Inside q h = absurd (omega arith)
 a-refusal (ending.Refused r) q h = ap refused (sym q)
 
+-- ---- text at the front of the buffer
+
+stands : {lacking : Bool} (text before after : List ℕ) (n : ℕ) → lacking ≡ false → placed n after ≡ frontOr lacking text before → Stands text after n
+stands text before after n room q =
+    let e : placed n after ≡ placed (length text) (over text before) = rw room at q in
+    record {
+      is = ap (λ z. take (z .count) (z .buffer)) e ∙ over-front text before;
+      fits = omega (arith, ap (λ z. z .count) e, ap (λ z. length (z .buffer)) e, length-append text (drop (length text) before));
+    }
+
+module _ (before after : List ℕ) (n : ℕ) where
+  pub refused-stands : (number place : ℕ) → 53 ≤ length before → placed n after ≡ refusedIn number place before → Stands (refusedLine number place) after n
+  refused-stands number place h = stands (refusedLine number place) before after n (le-ltb (length before) 53 h)
+
+  pub curve-stands : (k : Record) (g : Histogram) → 65536 ≤ length before → length (g .counts) ≤ 1026 → placed n after ≡ curveIn k g before → Stands (curveText k g) after n
+  curve-stands k g h few = stands (curveText k g) before after n (or-neither (le-ltb (length before) 65536 h) (le-ltb 1026 (length (g .counts)) few))
+
 -- ---- between reads
 
--- some input was fed up to a place, which left s, and the rest of it is at hand
-pub record Follows (first : Held) (place : ℕ) (s : Held) (rest : List ℕ) : Type 0 where
-  pub input : List ℕ
-  pub end : End
-  pub is : feedOf input first ≡ record { taken = place; said = gives end; left = s }
-  pub rest-is : drop place input ≡ rest
-
 pub follows-none : (s : Held) → Follows s 0 s []
-follows-none s = record { input = []; end = whole; is = feed-none [] s refl; rest-is = refl }
+follows-none s = record { end = whole; reached = record { input = []; is = feed-none [] s refl; rest-is = refl } }
+
+pub reached-follows : {first s : Held} {place : ℕ} {why : Said End} {rest : List ℕ} → Reached first place why s rest → Ends why → Follows first place s rest
+reached-follows r e = record { end = e .end; reached = rw (e .is) at r }
+
+pub reached-refused : {first s : Held} {place m : ℕ} {why : Said End} {rest : List ℕ} → Reached first place why s rest → why ≡ refused m
+    → {buffer : List ℕ} {n : ℕ} → Stands (refusedLine m place) buffer n → Prints (textFrom first) buffer n
+reached-refused r e a = record { input = r .input; stands = record { is = a .is ∙ rw (r .is, e); fits = a .fits } }
 
 module _ (first : Held) (place : ℕ) (s : Held) (rest : List ℕ) (w : Follows first place s rest) where
-  ended : Untaken (gives (w .end)) (length (w .input)) place
-  ended = rw (w .is) at (untaken (w .input) first)
+  ended : Untaken (gives (w .end)) (length (w .reached .input)) place
+  ended = rw (w .reached .is) at (untaken (w .reached .input) first)
 
-  rest-length : length rest ≡ length (w .input) - place
-  rest-length = ap length (sym (w .rest-is)) ∙ length-drop place (w .input)
+  rest-length : length rest ≡ length (w .reached .input) - place
+  rest-length = ap length (sym (w .reached .rest-is)) ∙ length-drop place (w .reached .input)
 
-  within : (e : End) → Untaken (gives e) (length (w .input)) place → place ≤ length (w .input)
+  within : (e : End) → Untaken (gives e) (length (w .reached .input)) place → place ≤ length (w .reached .input)
   within whole u = omega arith
   within inside u = omega arith
 
-  short : (e : End) → Untaken (gives e) (length (w .input)) place → length rest < 18
+  short : (e : End) → Untaken (gives e) (length (w .reached .input)) place → length rest < 18
   short whole u = omega (arith, rest-length)
   short inside u = omega (arith, rest-length)
 
@@ -81,37 +101,34 @@ module _ (first : Held) (place : ℕ) (s : Held) (rest : List ℕ) (w : Follows 
   pub follows-short : length rest < 18
   follows-short = short (w .end) ended
 
-  at-end : (e : End) → Untaken (gives e) (length (w .input)) place
+  at-end : (e : End) → Untaken (gives e) (length (w .reached .input)) place
       → endText (gives e) place s ≡ cond (ltb 0 (length rest)) (refusedLine 7 place) (curveText (s .kept) (s .tables .histogram))
   at-end whole u = rw (le-ltb 0 (length rest) (omega (arith, rest-length)))
   at-end inside u = rw (lt-ltb 0 (length rest) (omega (arith, rest-length)))
 
   -- at the end of the input
-  pub follows-end : (l : ℕ) → length rest ≡ l → {before after : List ℕ} {n : ℕ}
-      → Adds before 0 (cond (ltb 0 l) (refusedLine 7 place) (curveText (s .kept) (s .tables .histogram))) after n → Prints (textFrom first) after n
-  follows-end l e a = record { input = w .input; is = a .front ∙ rw (← e) (sym (at-end (w .end) ended) ∙ rw (w .is)); fits = a .fits }
+  pub follows-end : (l : ℕ) → length rest ≡ l → {buffer : List ℕ} {n : ℕ}
+      → Stands (cond (ltb 0 l) (refusedLine 7 place) (curveText (s .kept) (s .tables .histogram))) buffer n → Prints (textFrom first) buffer n
+  follows-end l e a = record {
+    input = w .reached .input;
+    stands = record { is = a .is ∙ rw (← e) (sym (at-end (w .end) ended) ∙ rw (w .reached .is)); fits = a .fits };
+  }
 
   -- more of the input
-  module _ (more : List ℕ) where
-    fed : feedOf (w .input ++ more) first ≡ further place (feedOf (rest ++ more) s)
-    fed = pieces (w .input) more first ∙ rw (w .is, w .rest-is)
-
-    pub follows-more : (n : ℕ) (why : Said End) (left : Held) → record { taken = n; said = why; left = left } ≡ feedOf (rest ++ more) s → Ends why → Follows first (place + n) left (drop n (rest ++ more))
-    follows-more n why left q e = record {
-      input = w .input ++ more;
-      end = e .end;
-      is = fed ∙ rw (← q, e .is);
-      rest-is = sym (drop-drop n place (w .input ++ more)) ∙ ap (drop n) (drop-append-le place (w .input) more (within (w .end) ended) ∙ ap (λ l. l ++ more) (w .rest-is));
-    }
-
-    pub follows-refused : (n m : ℕ) (why : Said End) (left : Held) → record { taken = n; said = why; left = left } ≡ feedOf (rest ++ more) s → why ≡ refused m
-        → {before after : List ℕ} {k : ℕ} → Adds before 0 (refusedLine m (place + n)) after k → Prints (textFrom first) after k
-    follows-refused n m why left q e a = record { input = w .input ++ more; is = a .front ∙ rw (fed, ← q, e); fits = a .fits }
+  pub follows-more : (more : List ℕ) (n : ℕ) (why : Said End) (left : Held) → record { taken = n; said = why; left = left } ≡ feedOf (rest ++ more) s
+      → Reached first (place + n) why left (drop n (rest ++ more))
+  follows-more more n why left q = record {
+    input = w .reached .input ++ more;
+    is = pieces (w .reached .input) more first ∙ rw (w .reached .is, w .reached .rest-is, ← q);
+    rest-is = sym (drop-drop n place (w .reached .input ++ more))
+        ∙ ap (drop n) (drop-append-le place (w .reached .input) more (within (w .end) ended) ∙ ap (λ l. l ++ more) (w .reached .rest-is));
+  }
 
 -- the bytes fed: what was left, and what was read behind it
 pub behind : (left count : ℕ) (before now : List ℕ) → take left now ≡ take left before → take (left + count) now ≡ take left before ++ take count (drop left now)
 behind left count before now e = take-add left count now ∙ ap (λ l. l ++ take count (drop left now)) e
 
+-- no more was taken than was fed
 pub taken-most : (bytes : List ℕ) (s : Held) {f : Feeding} → f ≡ feedOf bytes s → f .taken ≤ length bytes
 taken-most bytes s e = rw e (taken-within bytes s)
 
@@ -122,6 +139,6 @@ module _ (t after : Tables) where
       → Telling (textFrom (record { kept = k; tables = after })) r buffer → Telling (textOver t) r buffer
   begun k r buffer e h = subst (λ (z : Beginning). Telling (λ (input : List ℕ). textAfter (z .said) (z .tables) input) r buffer) e h
 
-  pub not-begun : (n : ℕ) {before now : List ℕ} {m : ℕ} → record { said = refused n; tables = after } ≡ setupOf firstSettings t
-      → Adds before 0 (refusedLine n 0) now m → Prints (textOver t) now m
-  not-begun n e a = record { input = []; is = a .front ∙ ap (λ (z : Beginning). textAfter (z .said) (z .tables) []) e; fits = a .fits }
+  pub not-begun : (n : ℕ) {buffer : List ℕ} {m : ℕ} → record { said = refused n; tables = after } ≡ setupOf firstSettings t
+      → Stands (refusedLine n 0) buffer m → Prints (textOver t) buffer m
+  not-begun n e a = record { input = []; stands = record { is = a .is ∙ ap (λ (z : Beginning). textAfter (z .said) (z .tables) []) e; fits = a .fits } }

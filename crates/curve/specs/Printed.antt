@@ -8,9 +8,9 @@ use Rattle.rules.specs.Answers.{gives}
 use Rattle.rules.specs.Settings.{withDefaults}
 use Rattle.rules.specs.Refusals.{Held, fresh}
 use Rattle.demands.specs.Runs.{Run}
+use Rattle.text.specs.Text.{curveText}
 use Rattle.feed.specs.Feed.{whole, feedOf}
 use Rattle.feed.specs.Past.{Events, pastOf}
-use Rattle.curve.specs.Text.{curveText}
 use Rattle.curve.specs.Program.{firstSettings, firstTables, programOf}
 
 -- the fresh start that the program begins with

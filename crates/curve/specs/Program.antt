@@ -1,19 +1,23 @@
 -- Document 01, "The curve program": from the whole input to what is printed. Assumes nothing.
-use Prim.Native.Nat.{ℕ, _≤_}
+use Prim.Native.Nat.{ℕ, _+_, _^_, _≤_, _<_}
 use mathlib.Core.Path.{_≡_}
-use mathlib.Core.List.{List}
-use lib.ListN.{length, take, replicate}
+use mathlib.Core.List.{List, _++_}
+use lib.ListN.{length, take, drop, replicate}
 use Rattle.rules.specs.declared.Record.{Record}
 use Rattle.rules.specs.declared.Settings.{Settings}
 use Rattle.rules.specs.Settings.{Tables}
 use Rattle.rules.specs.Answers.{Said, refused, gives}
 use Rattle.rules.specs.Refusals.{Held, tablesOf, setupOf}
-use Rattle.feed.specs.Feed.{End, whole, inside, feedOf}
+use Rattle.text.specs.Text.{refusedLine, curveText}
+use Rattle.feed.specs.declared.Fed.{Fed}
+use Rattle.feed.specs.Feed.{End, whole, inside, saidEnding, feedOf}
 use Rattle.curve.specs.declared.Came.{Came}
 use Rattle.curve.specs.declared.Came.the-variants as came
 use Rattle.curve.specs.declared.Done.{Done}
 use Rattle.curve.specs.declared.Done.the-variants as done
-use Rattle.curve.specs.Text.{refusedLine, curveText}
+use Rattle.curve.specs.declared.Pause.{Pause}
+use Rattle.curve.specs.declared.Next.{Next}
+use Rattle.curve.specs.declared.Next.the-variants as next
 
 -- it begins with all settings zero and hash kind 1
 abbrev pub firstSettings : Settings
@@ -59,14 +63,62 @@ abbrev pub refusalIn : Said End → ℕ
 refusalIn (refused n) = n
 refusalIn (gives e) = 0
 
+-- a text stands at the front of a buffer
+pub record Stands (text buffer : List ℕ) (n : ℕ) : Type 0 where
+  pub is : take n buffer ≡ text
+  pub fits : n ≤ length buffer
+
 -- the first bytes of a buffer are the text for some input: that which was read
 pub record Prints (text : List ℕ → List ℕ) (buffer : List ℕ) (n : ℕ) : Type 0 where
   pub input : List ℕ
-  pub is : take n buffer ≡ text input
-  pub fits : n ≤ length buffer
+  pub stands : Stands (text input) buffer n
 
 -- no text without the end of the input, or a refused event
 abbrev pub Telling : (List ℕ → List ℕ) → Done → List ℕ → Type 0
 Telling text (done.Text n) buffer = Prints text buffer n
 Telling text done.Failed buffer = Unit {0}
 Telling text done.Unending buffer = Unit {0}
+
+-- some input, fed from the first state on, was taken up to a place: why no more was, what that left, and the bytes behind the place
+pub record Reached (first : Held) (place : ℕ) (why : Said End) (s : Held) (rest : List ℕ) : Type 0 where
+  pub input : List ℕ
+  pub is : feedOf input first ≡ record { taken = place; said = why; left = s }
+  pub rest-is : drop place input ≡ rest
+
+-- no event of it was refused
+pub record Follows (first : Held) (place : ℕ) (s : Held) (rest : List ℕ) : Type 0 where
+  pub end : End
+  pub reached : Reached first place (gives end) s rest
+
+-- another read can be counted, and has room behind what is left over
+pub record Ready (p : Pause) : Type 0 where
+  pub short : p .left < 18
+  pub far : 65536 ≤ p .reach
+  pub counted : p .place + p .reach < 2 ^ 64
+
+-- a pause that comes after another
+pub record Later (p q : Pause) : Type 0 where
+  pub short : q .left < 18
+  pub falls : q .reach ≤ p .reach
+  pub counted : q .place + q .reach < 2 ^ 64
+
+-- after a read of an input that follows a first state: it follows still, or the text of it stands
+abbrev pub Leads : (first : Held) → Pause → Next → (buffer : List ℕ) → Tables → Type 0
+Leads first p (next.On q) buffer t = Later p q × Follows first (q .place) (record { kept = q .kept; tables = t }) (take (q .left) buffer)
+Leads first p (next.Over d) buffer t = Telling (textFrom first) d buffer
+
+-- after feeding these bytes
+abbrev pub AfterFed : Pause → Fed → (bytes : List ℕ) → Next → (buffer : List ℕ) → Type 0
+AfterFed p fed bytes r buffer =
+    (first : Held) (t : Tables)
+    → Reached first (p .place + fed .taken) (saidEnding (fed .ending)) (record { kept = fed .kept; tables = t }) (drop (fed .taken) bytes)
+    → Leads first p r buffer t
+
+-- after these bytes were read: those left over, and more
+abbrev pub AfterBytes : Pause → Tables → (bytes : List ℕ) → Next → (buffer : List ℕ) → Tables → Type 0
+AfterBytes p t bytes r buffer after =
+    (first : Held) (rest more : List ℕ) → Follows first (p .place) (record { kept = p .kept; tables = t }) rest → bytes ≡ rest ++ more → Leads first p r buffer after
+
+-- after a read behind those left over
+abbrev pub AfterRead : Pause → Tables → (rest : List ℕ) → Next → (buffer : List ℕ) → Tables → Type 0
+AfterRead p t rest r buffer after = (first : Held) → Follows first (p .place) (record { kept = p .kept; tables = t }) rest → Leads first p r buffer after

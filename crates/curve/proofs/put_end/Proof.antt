@@ -1,4 +1,7 @@
+use Rattle.rules.specs.Refusals.{bucketsOf}
+use native.Mathlib.Omega.{arith}
 use borrow.Author.Tests.{lt-ltb, le-ltb}
+use Rattle.curve.proofs.Input.{refused-stands, curve-stands}
 use borrow.Author.Needs.{needs}
 use Rattle.curve.proofs.put_end.Statement.{statement}
 use Rattle.curve.proofs.put_end.Tie as tie
@@ -10,7 +13,7 @@ same-length : tie.Need-same-length
 same-length c = search needs
 
 returns : tie.Need-returns
-returns c = rw (lt-ltb 0 _ (c .before .before .before .before .if1 .taken)) (c .before .before .put-refused-line .ensures)
+returns c = rw (lt-ltb 0 _ (c .before .before .before .before .if1 .taken)) (refused-stands (c .before .before .before .before .before .before .before .before .args .out .now) _ _ 7 _ (omega (arith, c .before .before .before .before .before .before .before .before .pre .1)) (c .before .before .put-refused-line .ensures))
 
 put-curve-requires : tie.Need-put-curve-requires
 put-curve-requires c κs = search needs
@@ -19,7 +22,7 @@ same-length-2 : tie.Need-same-length-2
 same-length-2 c = search needs
 
 returns-2 : tie.Need-returns-2
-returns-2 c = rw (le-ltb 0 _ (c .before .before .before .before .if1 .left)) (c .before .before .put-curve .ensures)
+returns-2 c = rw (le-ltb 0 _ (c .before .before .before .before .if1 .left)) (curve-stands (c .before .before .before .before .before .before .before .before .args .out .now) _ _ (c .before .before .before .before .before .before .before .before .args .k) (bucketsOf (c .before .before .before .before .before .before .before .before .args .counts .now) (c .before .before .before .before .before .before .before .before .args .thresholds .now)) (c .before .before .before .before .before .before .before .before .pre .1) (c .before .before .before .before .before .before .before .before .pre .0) (c .before .before .put-curve .ensures))
 
 pub put-end-spec : {M : Type 1} → statement M
 put-end-spec =

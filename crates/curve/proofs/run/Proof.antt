@@ -1,7 +1,11 @@
-use Rattle.curve.proofs.Input.{begun, not-begun}
+use native.Mathlib.Omega.{arith}
+use Rattle.curve.proofs.Input.{refused-stands, begun, not-begun}
 use borrow.Author.Needs.{needs}
 use Rattle.curve.proofs.run.Statement.{statement}
 use Rattle.curve.proofs.run.Tie as tie
+
+first-settings-requires : tie.Need-first-settings-requires
+first-settings-requires c κs = search needs
 
 setup-requires : tie.Need-setup-requires
 setup-requires c κs = search needs
@@ -34,7 +38,7 @@ same-length-4 : tie.Need-same-length-4
 same-length-4 c = search needs
 
 returns : tie.Need-returns
-returns c = begun _ _ _ (c .before .before .before .before .before .before .before .before .follow .result) (c .before .before .before .before .before .before .before .before .follow .last .1 .0) (rw (c .before .before .before .before .before .before .before .before .before .before .before .before .before .before .k .given .1) at (c .before .before .before .before .before .before .before .before .before .before .before .before .before .before .before .before .before .before .before .before .setup .ensures)) (c .before .before .before .before .before .before .before .before .follow .ensures)
+returns c = begun _ _ _ (c .before .before .before .before .before .before .before .before .follow .result) (c .before .before .before .before .before .before .before .before .follow .last .1 .0) (rw (c .before .before .before .before .before .before .before .before .before .before .before .before .before .before .k .given .1, c .before .before .before .before .before .before .before .before .before .before .before .before .before .before .before .before .before .before .before .before .before .before .before .before .first-settings .ensures) at (c .before .before .before .before .before .before .before .before .before .before .before .before .before .before .before .before .before .before .before .before .setup .ensures)) (c .before .before .before .before .before .before .before .before .follow .ensures)
 
 same-length-5 : tie.Need-same-length-5
 same-length-5 c = search needs
@@ -49,12 +53,15 @@ same-length-8 : tie.Need-same-length-8
 same-length-8 c = search needs
 
 returns-2 : tie.Need-returns-2
-returns-2 c = not-begun _ _ _ (rw (c .before .before .before .before .before .before .why .given .1) at (c .before .before .before .before .before .before .before .before .before .before .before .before .setup .ensures)) (rw (c .before .before .before .number-of .ensures) at (c .before .before .put-refused-line .ensures))
+returns-2 c =
+    let number = c .before .before .before .number-of .ensures in
+    not-begun _ _ _ (rw (c .before .before .before .before .before .before .why .given .1, c .before .before .before .before .before .before .before .before .before .before .before .before .before .before .before .before .first-settings .ensures) at (c .before .before .before .before .before .before .before .before .before .before .before .before .setup .ensures)) (rw number at (refused-stands (c .before .before .before .before .before .before .before .before .before .before .before .before .before .before .before .before .before .before .before .before .before .args .buffer .now) _ _ _ _ (omega (arith, c .before .before .before .before .before .before .before .before .before .before .before .before .before .before .before .before .before .before .before .before .before .pre .0)) (c .before .before .put-refused-line .ensures)))
 
 pub run-spec : {M : Type 1} → statement M
 run-spec =
     tie.close
     (tie.spec
+    first-settings-requires
     setup-requires
     enum-known-k
     follow-requires

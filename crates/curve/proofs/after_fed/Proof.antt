@@ -1,0 +1,54 @@
+use native.Mathlib.Omega.{arith}
+use lib.ListN.{take, length-drop}
+use lib.Seq.{length-take-le}
+use Rattle.curve.proofs.Input.{no-refusal, a-refusal, refused-stands, reached-follows, reached-refused, follows-short}
+use borrow.Author.Needs.{needs}
+use Rattle.curve.proofs.after_fed.Statement.{statement}
+use Rattle.curve.proofs.after_fed.Tie as tie
+
+refusal-in-requires : tie.Need-refusal-in-requires
+refusal-in-requires c κs = search needs
+
+add-place : tie.Need-add-place
+add-place c = search needs
+
+sub-reach : tie.Need-sub-reach
+sub-reach c = search needs
+
+put-refused-line-requires : tie.Need-put-refused-line-requires
+put-refused-line-requires c κs = search needs
+
+same-length : tie.Need-same-length
+same-length c = search needs
+
+returns : tie.Need-returns
+returns c = λ first t w. reached-refused w (a-refusal (c .before .before .before .before .before .before .before .before .before .before .args .fed .ending) (c .before .before .before .before .before .before .before .refusal-in .ensures) (c .before .before .before .before .if1 .taken)) (refused-stands (c .before .before .before .before .before .before .before .before .before .before .args .buffer .now) _ _ _ _ (omega (arith, c .before .before .before .before .before .before .before .before .before .before .pre)) (c .before .before .put-refused-line .ensures))
+
+to-front-requires : tie.Need-to-front-requires
+to-front-requires c κs = search needs
+
+same-length-2 : tie.Need-same-length-2
+same-length-2 c = search needs
+
+returns-2 : tie.Need-returns-2
+returns-2 c = λ first t w.
+    let start = c .before .before .before .before .before .before .before .before .before .before in
+    let moved = c .before .before .to-front in
+    let f = reached-follows w (no-refusal (start .args .fed .ending) (c .before .before .before .before .before .before .before .refusal-in .ensures) (λ z. omega (arith, z, c .before .before .before .before .if1))) in
+    let some = length-drop (start .args .fed .taken) (take (start .args .end) (start .args .buffer .now)) in
+    let all = length-take-le (start .args .end) (start .args .buffer .now) (omega (arith, start .pre)) in
+    (record { short = omega (arith, follows-short _ _ _ _ f, some, all, moved .ensures .0); falls = omega arith; counted = omega (arith, start .pre) }, rw (moved .ensures .1) f)
+
+pub after-fed-spec : {M : Type 1} → statement M
+after-fed-spec =
+    tie.close
+    (tie.spec
+    refusal-in-requires
+    add-place
+    sub-reach
+    put-refused-line-requires
+    same-length
+    returns
+    to-front-requires
+    same-length-2
+    returns-2)

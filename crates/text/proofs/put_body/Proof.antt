@@ -1,0 +1,60 @@
+use native.Mathlib.Omega.{arith}
+use mathlib.Core.Path.{sym, ap, _∙_}
+use Rattle.rules.specs.Answers.{saidPointed}
+use Rattle.text.proofs.Laws.{adds-then, point-needed}
+use borrow.Author.Needs.{needs}
+use Rattle.text.proofs.put_body.Statement.{statement}
+use Rattle.text.proofs.put_body.Tie as tie
+
+point-at-requires : tie.Need-point-at-requires
+point-at-requires c κs = search needs
+
+enum-told : tie.Need-enum-told
+enum-told c = search needs
+
+put-points-requires : tie.Need-put-points-requires
+put-points-requires c κs = (search needs, omega (arith, point-needed (c .before .before .before .before .before .before .before .args .k) 0 _ (sym (c .before .before .before .point-at .ensures) ∙ ap saidPointed (c .before .enum-told .given .1)), c .before .before .before .before .before .before .before .pre), search needs)
+
+slice-aggregate-put : tie.Need-slice-aggregate-put
+slice-aggregate-put c = search needs
+
+put-requires : tie.Need-put-requires
+put-requires c κs = search needs
+
+enum-told-2 : tie.Need-enum-told-2
+enum-told-2 c = search needs
+
+slice-aggregate-put-2 : tie.Need-slice-aggregate-put-2
+slice-aggregate-put-2 c = search needs
+
+put-requires-2 : tie.Need-put-requires-2
+put-requires-2 c κs = search needs
+
+same-length : tie.Need-same-length
+same-length c = search needs
+
+returns : tie.Need-returns
+returns c = rw (sym (c .before .before .before .before .before .before .before .before .before .before .before .point-at .ensures) ∙ ap saidPointed (c .before .before .before .before .before .before .before .before .before .enum-told .given .1)) (adds-then (c .before .before .before .before .before .before .before .put-points .ensures .0) (c .before .before .put .ensures))
+
+same-length-2 : tie.Need-same-length-2
+same-length-2 c = search needs
+
+returns-2 : tie.Need-returns-2
+returns-2 c = rw (sym (c .before .before .before .before .before .before .before .point-at .ensures) ∙ ap saidPointed (c .before .before .before .before .before .enum-told2 .given .1)) (c .before .before .put2 .ensures)
+
+pub put-body-spec : {M : Type 1} → statement M
+put-body-spec =
+    tie.close
+    (tie.spec
+    point-at-requires
+    enum-told
+    put-points-requires
+    slice-aggregate-put
+    put-requires
+    enum-told-2
+    slice-aggregate-put-2
+    put-requires-2
+    same-length
+    returns
+    same-length-2
+    returns-2)

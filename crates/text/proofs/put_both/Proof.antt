@@ -1,0 +1,19 @@
+use borrow.Author.Needs.{needs}
+use Rattle.text.proofs.Laws.{adds-then}
+use Rattle.text.proofs.put_both.Statement.{statement}
+use Rattle.text.proofs.put_both.Tie as tie
+
+put-requires : tie.Need-put-requires
+put-requires c κs = search needs
+
+put-number-requires : tie.Need-put-number-requires
+put-number-requires c κs = search needs
+
+same-length : tie.Need-same-length
+same-length c = search needs
+
+returns : tie.Need-returns
+returns c = (adds-then (c .before .before .before .before .before .before .put .ensures) (c .before .before .put-number .ensures .0), search needs)
+
+pub put-both-spec : {M : Type 1} → statement M
+put-both-spec = tie.close (tie.spec put-requires put-number-requires same-length returns)

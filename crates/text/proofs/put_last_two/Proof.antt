@@ -1,0 +1,33 @@
+use Rattle.text.proofs.Laws.{adds-then}
+use borrow.Author.Needs.{needs}
+use Rattle.text.proofs.put_last_two.Statement.{statement}
+use Rattle.text.proofs.put_last_two.Tie as tie
+
+put-both-requires : tie.Need-put-both-requires
+put-both-requires c κs = search needs
+
+put-both-requires-2 : tie.Need-put-both-requires-2
+put-both-requires-2 c κs = search needs
+
+slice-aggregate-put : tie.Need-slice-aggregate-put
+slice-aggregate-put c = search needs
+
+put-requires : tie.Need-put-requires
+put-requires c κs = search needs
+
+same-length : tie.Need-same-length
+same-length c = search needs
+
+returns : tie.Need-returns
+returns c = (adds-then (c .before .before .before .before .before .before .before .before .before .before .before .put-both .ensures .0) (adds-then (c .before .before .before .before .before .before .before .put-both2 .ensures .0) (c .before .before .put .ensures)), search needs)
+
+pub put-last-two-spec : {M : Type 1} → statement M
+put-last-two-spec =
+    tie.close
+    (tie.spec
+    put-both-requires
+    put-both-requires-2
+    slice-aggregate-put
+    put-requires
+    same-length
+    returns)

@@ -1,0 +1,40 @@
+use native.Mathlib.Omega.{arith}
+use borrow.Author.Needs.{needs}
+use mathlib.Core.Path.{_∙_}
+use Rattle.text.proofs.Laws.{decimal-spelled}
+use Rattle.text.proofs.put_number.Statement.{statement}
+use Rattle.text.proofs.put_number.Tie as tie
+
+decimal-requires : tie.Need-decimal-requires
+decimal-requires c κs = search needs
+
+array-share-prefix-digits : tie.Need-array-share-prefix-digits
+array-share-prefix-digits c = search needs
+
+slice-aggregate-put : tie.Need-slice-aggregate-put
+slice-aggregate-put c = search needs
+
+put-requires : tie.Need-put-requires
+put-requires c κs =
+    let made = c .before .before .decimal in
+    omega (arith, decimal-spelled (made .result) (c .before .before .before .before .before .args .n) (search needs) (made .ensures .1 .0) .few, made .ensures .0 .1)
+
+same-length : tie.Need-same-length
+same-length c = search needs
+
+returns : tie.Need-returns
+returns c =
+    let made = c .before .before .before .before .before .decimal in
+    let told = decimal-spelled (made .result) (c .before .before .before .before .before .before .before .before .args .n) (search needs) (made .ensures .1 .0) in
+    (rw (← (made .ensures .1 .1 ∙ told .are)) (c .before .before .put .ensures), omega (arith, told .few, made .ensures .0 .1))
+
+pub put-number-spec : {M : Type 1} → statement M
+put-number-spec =
+    tie.close
+    (tie.spec
+    decimal-requires
+    array-share-prefix-digits
+    slice-aggregate-put
+    put-requires
+    same-length
+    returns)

@@ -1,0 +1,139 @@
+-- Document 01, "The curve program": what is printed, as bytes. Assumes nothing.
+use Prim.Native.Nat.{ℕ, zero, suc, _+_, _/_, _%_, _≤_}
+use mathlib.Core.Path.{_≡_}
+use mathlib.Core.Bool.{Bool, cond, _||_}
+use mathlib.Core.List.{List, [], _∷_, _++_}
+use lib.Dec.{ltb}
+use lib.ListN.{length, take, drop}
+use Rattle.rules.specs.declared.Record.{Record}
+use Rattle.rules.specs.declared.Shape.{Shape}
+use Rattle.rules.specs.declared.Point.{Point}
+use Rattle.rules.specs.Lists.{over}
+use Rattle.rules.specs.Settings.{Histogram}
+use Rattle.rules.specs.Answers.{Said, refused, gives}
+use Rattle.rules.specs.Refusals.{pointOf}
+
+-- ---- numbers
+
+-- in decimal, if so many digits are enough
+abbrev pub decimalMost : (digits n : ℕ) → List ℕ
+decimalMost zero n = []
+decimalMost (suc k) n = cond (ltb n 10) ((48 + n) ∷ []) (decimalMost k (n / 10) ++ ((48 + n % 10) ∷ []))
+
+-- in decimal: 20 digits are enough for 64 bits
+unfoldable pub decimal : ℕ → List ℕ
+decimal n = decimalMost 20 n
+
+-- ---- words
+
+-- "curve refs "
+abbrev pub refsWord : List ℕ
+refsWord = 99 ∷ 117 ∷ 114 ∷ 118 ∷ 101 ∷ 32 ∷ 114 ∷ 101 ∷ 102 ∷ 115 ∷ 32 ∷ []
+
+-- " sampled "
+abbrev pub sampledWord : List ℕ
+sampledWord = 32 ∷ 115 ∷ 97 ∷ 109 ∷ 112 ∷ 108 ∷ 101 ∷ 100 ∷ 32 ∷ []
+
+-- " threshold "
+abbrev pub thresholdWord : List ℕ
+thresholdWord = 32 ∷ 116 ∷ 104 ∷ 114 ∷ 101 ∷ 115 ∷ 104 ∷ 111 ∷ 108 ∷ 100 ∷ 32 ∷ []
+
+-- " live "
+abbrev pub liveWord : List ℕ
+liveWord = 32 ∷ 108 ∷ 105 ∷ 118 ∷ 101 ∷ 32 ∷ []
+
+-- " "
+abbrev pub space : List ℕ
+space = 32 ∷ []
+
+-- "\n"
+abbrev pub newline : List ℕ
+newline = 10 ∷ []
+
+-- "end\n"
+abbrev pub endLine : List ℕ
+endLine = 101 ∷ 110 ∷ 100 ∷ 10 ∷ []
+
+-- "empty\n"
+abbrev pub emptyLine : List ℕ
+emptyLine = 101 ∷ 109 ∷ 112 ∷ 116 ∷ 121 ∷ 10 ∷ []
+
+-- "refused "
+abbrev pub refusedWord : List ℕ
+refusedWord = 114 ∷ 101 ∷ 102 ∷ 117 ∷ 115 ∷ 101 ∷ 100 ∷ 32 ∷ []
+
+-- " at "
+abbrev pub atWord : List ℕ
+atWord = 32 ∷ 97 ∷ 116 ∷ 32 ∷ []
+
+-- ---- lines
+
+-- references, sampled references, threshold and live number
+abbrev pub firstLine : Record → List ℕ
+firstLine k =
+    (refsWord ++ decimal (k .numbers .references)) ++ ((sampledWord ++ decimal (k .numbers .sampled))
+    ++ ((thresholdWord ++ decimal (k .threshold)) ++ ((liveWord ++ decimal (k .live)) ++ newline)))
+
+-- size, misses and total
+abbrev pub pointLine : Point → List ℕ
+pointLine p = decimal (p .size) ++ ((space ++ decimal (p .misses)) ++ ((space ++ decimal (p .total)) ++ newline))
+
+-- a refused event, with its number and the place of its first byte
+abbrev pub refusedLine : (number place : ℕ) → List ℕ
+refusedLine number place = (refusedWord ++ decimal number) ++ ((atWord ++ decimal place) ++ newline)
+
+-- ---- the curve
+
+-- the shape that the record itself has
+abbrev pub shapeOf : Record → Shape
+shapeOf k = record { buckets = k .settings .buckets; width = k .settings .width }
+
+abbrev pub pointAt : Record → (point : ℕ) → Histogram → Said Point
+pointAt k point g = pointOf k (shapeOf k) point g
+
+-- the line of a point, where it is answered
+abbrev pub lineOf : Said Point → List ℕ
+lineOf (refused n) = []
+lineOf (gives p) = pointLine p
+
+-- the lines of the points below n
+unfoldable pub linesTo : ℕ → Record → Histogram → List ℕ
+linesTo zero k g = []
+linesTo (suc n) k g = linesTo n k g ++ lineOf (pointAt k n g)
+
+-- a line per point and `end`; if the curve is empty, `empty` stands in their place
+abbrev pub pointsOr : Said Point → Record → Histogram → List ℕ
+pointsOr (refused n) k g = emptyLine
+pointsOr (gives p) k g = linesTo (k .settings .buckets + 1) k g ++ endLine
+
+abbrev pub curveText : Record → Histogram → List ℕ
+curveText k g = firstLine k ++ pointsOr (pointAt k 0 g) k g
+
+-- ---- text in a buffer
+
+-- the first bytes of a buffer were the first `at` of those before, and have now a text behind them; what is behind the text is as it was
+pub record Adds (before : List ℕ) (at : ℕ) (text after : List ℕ) (end : ℕ) : Type 0 where
+  pub front : take end after ≡ take at before ++ text
+  pub behind : drop end after ≡ drop end before
+  pub ends : end ≡ at + length text
+  pub fits : end ≤ length after
+
+-- what a call answers, and the buffer as it leaves it
+pub record Placed : Type 0 where
+  pub count : ℕ
+  pub buffer : List ℕ
+
+abbrev pub placed : (count : ℕ) (buffer : List ℕ) → Placed
+placed count buffer = record { count = count; buffer = buffer }
+
+-- the text over the front of the buffer, and how many bytes it has; where room is lacking, nothing
+abbrev pub frontOr : (lacking : Bool) → (text buffer : List ℕ) → Placed
+frontOr lacking text buffer = cond lacking (placed 0 buffer) (placed (length text) (over text buffer))
+
+-- the longest curve that the program's tables give, of 1,025 points, has less than 65,536 bytes
+abbrev pub curveIn : Record → Histogram → (buffer : List ℕ) → Placed
+curveIn k g buffer = frontOr (ltb (length buffer) 65536 || ltb 1026 (length (g .counts))) (curveText k g) buffer
+
+-- the longest line of a refused event has 53 bytes
+abbrev pub refusedIn : (number place : ℕ) (buffer : List ℕ) → Placed
+refusedIn number place buffer = frontOr (ltb (length buffer) 53) (refusedLine number place) buffer

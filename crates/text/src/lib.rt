@@ -1,0 +1,162 @@
+// The curve as text, and the line of a refused event, at the front of a buffer. Document 01, "The curve program".
+use rules::Point;
+use rules::Pointed;
+use rules::Record;
+use rules::Shape;
+ghost use mathlib.Core.Path.{_≡_};
+ghost use mathlib.Core.List.{_++_};
+ghost use Prim.Native.Nat.{_+_, _≤_};
+ghost use lib.ListN.{length};
+ghost use Rattle.rules.specs.Refusals.{bucketsOf};
+ghost use Rattle.rules.specs.Answers.{saidPointed};
+ghost use Rattle.text.specs.Text.{decimal, newline, firstLine, pointLine, shapeOf, pointAt, lineOf, linesTo, pointsOr, curveText, Adds, placed, curveIn, refusedIn};
+
+// ---- text in a buffer, behind the first bytes of it
+
+fn put(out: &mut [u8], at: usize, text: &[u8]) -> usize
+    requires { ⌜ at + length (now text) ≤ length (now out) ⌝ }
+    ensures { λ r. ⌜ Adds (now (out .entry)) at (now (text .entry)) (now (out .exit)) r ⌝ }
+{
+    let mut i: usize = 0;
+    while i < text.len() {
+        out[at + i] = text[i];
+        i += 1;
+    }
+    at + i
+}
+
+fn put_number(out: &mut [u8], at: usize, n: u64) -> usize
+    requires { ⌜ at + 20 ≤ length (now out) ⌝ }
+    ensures { λ r. ⌜ Adds (now (out .entry)) at (decimal n) (now (out .exit)) r ⌝ }
+    ensures { λ r. ⌜ r ≤ at + 20 ⌝ }
+{
+    let mut digits = [0u8; 20];
+    let count = io::decimal(n, &mut digits);
+    put(out, at, &digits[..count])
+}
+
+fn put_both(out: &mut [u8], at: usize, word: &[u8], n: u64) -> usize
+    requires { ⌜ at + length (now word) + 20 ≤ length (now out) ⌝ }
+    ensures { λ r. ⌜ Adds (now (out .entry)) at (now (word .entry) ++ decimal n) (now (out .exit)) r ⌝ }
+    ensures { λ r. ⌜ r ≤ at + length (now (word .entry)) + 20 ⌝ }
+{
+    let after = put(out, at, word);
+    put_number(out, after, n)
+}
+
+// The last two numbers of a line, each behind its word, and the line's end.
+fn put_last_two(out: &mut [u8], at: usize, word: &[u8], n: u64, other: &[u8], m: u64) -> usize
+    requires { ⌜ at + length (now word) + length (now other) + 41 ≤ length (now out) ⌝ }
+    ensures { λ r. ⌜ Adds (now (out .entry)) at ((now (word .entry) ++ decimal n) ++ ((now (other .entry) ++ decimal m) ++ newline)) (now (out .exit)) r ⌝ }
+    ensures { λ r. ⌜ r ≤ at + length (now (word .entry)) + length (now (other .entry)) + 41 ⌝ }
+{
+    let one = put_both(out, at, word, n);
+    let two = put_both(out, one, other, m);
+    put(out, two, b"\n")
+}
+
+// References, sampled references, threshold and live number.
+fn put_first_line(out: &mut [u8], k: Record) -> usize
+    requires { ⌜ 118 ≤ length (now out) ⌝ }
+    ensures { λ r. ⌜ Adds (now (out .entry)) 0 (firstLine k) (now (out .exit)) r ⌝ }
+    ensures { λ r. ⌜ r ≤ 118 ⌝ }
+{
+    let references = put_both(out, 0, b"curve refs ", k.numbers.references);
+    let sampled = put_both(out, references, b" sampled ", k.numbers.sampled);
+    put_last_two(out, sampled, b" threshold ", k.threshold, b" live ", k.live)
+}
+
+// Size, misses and total.
+fn put_point_line(out: &mut [u8], at: usize, p: Point) -> usize
+    requires { ⌜ at + 63 ≤ length (now out) ⌝ }
+    ensures { λ r. ⌜ Adds (now (out .entry)) at (pointLine p) (now (out .exit)) r ⌝ }
+    ensures { λ r. ⌜ r ≤ at + 63 ⌝ }
+{
+    let size = put_number(out, at, p.size);
+    put_last_two(out, size, b" ", p.misses, b" ", p.total)
+}
+
+// ---- the curve
+
+// A point, for the shape that the record itself has.
+fn point_at(k: Record, number: u64, counts: &[u64], thresholds: &[u32]) -> Pointed
+    ensures { λ r. ⌜ saidPointed r ≡ pointAt k number (bucketsOf (now (counts .entry)) (now (thresholds .entry))) ⌝ }
+{
+    let shape = Shape {
+        buckets: k.settings.buckets,
+        width: k.settings.width,
+    };
+    points::point(k, shape, number, counts, thresholds)
+}
+
+// The line of a point, where it is answered.
+fn put_point(
+    out: &mut [u8],
+    at: usize,
+    k: Record,
+    number: u64,
+    counts: &[u64],
+    thresholds: &[u32],
+) -> usize
+    requires { ⌜ at + 63 ≤ length (now out) ⌝ }
+    ensures { λ r. ⌜ Adds (now (out .entry)) at (lineOf (pointAt k number (bucketsOf (now (counts .entry)) (now (thresholds .entry))))) (now (out .exit)) r ⌝ }
+    ensures { λ r. ⌜ r ≤ at + 63 ⌝ }
+{
+    match point_at(k, number, counts, thresholds) {
+        Pointed::At(p) => put_point_line(out, at, p),
+        Pointed::Refused(_) => at,
+    }
+}
+
+// A line per point, 0 to B.
+fn put_points(out: &mut [u8], at: usize, k: Record, counts: &[u64], thresholds: &[u32]) -> usize
+    requires { ⌜ (at ≤ 118) × (k .settings .buckets ≤ 1024) × (65536 ≤ length (now out)) ⌝ }
+    ensures { λ r. ⌜ Adds (now (out .entry)) at (linesTo (k .settings .buckets + 1) k (bucketsOf (now (counts .entry)) (now (thresholds .entry)))) (now (out .exit)) r ⌝ }
+    ensures { λ r. ⌜ r ≤ 65000 ⌝ }
+{
+    let last = k.settings.buckets;
+    let mut end = at;
+    let mut number: u64 = 0;
+    while number <= last {
+        end = put_point(out, end, k, number, counts, thresholds);
+        number += 1;
+    }
+    end
+}
+
+// The points and `end`, or `empty`.
+fn put_body(out: &mut [u8], at: usize, k: Record, counts: &[u64], thresholds: &[u32]) -> usize
+    requires { ⌜ (at ≤ 118) × (length (now counts) ≤ 1026) × (65536 ≤ length (now out)) ⌝ }
+    ensures { λ r. ⌜ Adds (now (out .entry)) at (pointsOr (pointAt k 0 (bucketsOf (now (counts .entry)) (now (thresholds .entry)))) k (bucketsOf (now (counts .entry)) (now (thresholds .entry)))) (now (out .exit)) r ⌝ }
+{
+    match point_at(k, 0, counts, thresholds) {
+        Pointed::At(_) => {
+            let points = put_points(out, at, k, counts, thresholds);
+            put(out, points, b"end\n")
+        }
+        Pointed::Refused(_) => put(out, at, b"empty\n"),
+    }
+}
+
+// ---- at the front of a buffer
+
+// The curve. A buffer that is shorter than 65,536 bytes, and more counts than the program has, get nothing and 0.
+pub fn put_curve(out: &mut [u8], k: Record, counts: &[u64], thresholds: &[u32]) -> usize
+    ensures { λ r. ⌜ placed r (now (out .exit)) ≡ curveIn k (bucketsOf (now (counts .entry)) (now (thresholds .entry))) (now (out .entry)) ⌝ }
+{
+    if (out.len() < 65536) | (1026 < counts.len()) {
+        return 0;
+    }
+    let first = put_first_line(out, k);
+    put_body(out, first, k, counts, thresholds)
+}
+
+// A refused event's number, and the place of its first byte. A buffer that is shorter than 53 bytes gets nothing and 0.
+pub fn put_refused_line(out: &mut [u8], number: u64, place: u64) -> usize
+    ensures { λ r. ⌜ placed r (now (out .exit)) ≡ refusedIn number place (now (out .entry)) ⌝ }
+{
+    if out.len() < 53 {
+        return 0;
+    }
+    put_last_two(out, 0, b"refused ", number, b" at ", place)
+}
