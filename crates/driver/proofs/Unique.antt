@@ -7,7 +7,7 @@ use Rattle.rules.specs.declared.Settings.{Settings}
 use Rattle.rules.specs.declared.Shape.{Shape}
 use Rattle.rules.specs.declared.Event.{Event}
 use Rattle.rules.specs.Settings.{Histogram, Tables}
-use Rattle.driver.specs.Words.{hashIn, Started, started, setupIn, restartIn, Referred, referred, referIn, Given, given, pointIn, plotIn, readIn, writeIn}
+use Rattle.driver.specs.Calls.{hashIn, Started, started, setupIn, restartIn, Referred, referred, referIn, Given, given, pointIn, plotIn, readIn, writeIn}
 
 -- what is left coincides where it is one of these
 abbrev StartedOnce : Started → Type 0

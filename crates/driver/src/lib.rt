@@ -1,22 +1,26 @@
 // What a driver in C links: include/rockgingham.h says the same for its readers. Every function takes anything and, but for the hash,
 // answers 0, or the number of a refusal, which changes no word, table or byte.
-use rules::Answer;
 use rules::Body;
 use rules::Event;
 use rules::Hashing;
-use rules::Numbers;
-use rules::Plotted;
-use rules::Pointed;
 use rules::Reading;
-use rules::Record;
 use rules::Settings;
 use rules::Shape;
-use rules::Started;
-use rules::Written;
+use words::answer_words;
+use words::event_words;
+use words::kept_words;
+use words::number_answered;
+use words::number_plotted;
+use words::number_pointed;
+use words::number_started;
+use words::number_written;
+use words::plot_words;
+use words::point_words;
+use words::record_of;
+use words::started_words;
 ghost use mathlib.Core.Path.{_≡_};
-ghost use Rattle.rules.specs.Answers.{saidWritten};
 ghost use Rattle.rules.specs.Refusals.{tablesOf, bucketsOf};
-ghost use Rattle.driver.specs.Words.{recordOf, wordsOf, started, setupIn, restartIn, settingsFrom, hashIn, bodyFrom, referred, referIn, kindAndBody, given, shapeFrom, pointIn, plotIn, readIn, numberOf, writeIn};
+ghost use Rattle.driver.specs.Calls.{started, setupIn, restartIn, settingsFrom, hashIn, bodyFrom, referred, referIn, given, shapeFrom, pointIn, plotIn, readIn, writeIn};
 
 // The settings asked for: a zero stands for its default, except the hash kind.
 #[repr(C)]
@@ -33,46 +37,6 @@ pub struct Asked {
 pub struct Believed {
     pub buckets: u64,
     pub width: u64,
-}
-
-// The record's words, as a record. This and words_of alone know their order.
-fn record_of(words: [u64; 9]) -> Record
-    ensures { λ r. ⌜ r ≡ recordOf words ⌝ }
-{
-    Record {
-        settings: Settings {
-            limit: words[0],
-            start: words[1],
-            width: words[2],
-            buckets: words[3],
-            hashing: Hashing { kind: words[4] },
-        },
-        threshold: words[5],
-        live: words[6],
-        numbers: Numbers {
-            references: words[7],
-            sampled: words[8],
-        },
-    }
-}
-
-// A record's words.
-fn words_of(k: Record) -> [u64; 9]
-    ensures { λ r. ⌜ r ≡ wordsOf k ⌝ }
-{
-    let s = k.settings;
-    let n = k.numbers;
-    [
-        s.limit,
-        s.start,
-        s.width,
-        s.buckets,
-        s.hashing.kind,
-        k.threshold,
-        k.live,
-        n.references,
-        n.sampled,
-    ]
 }
 
 fn settings_from(asked: Asked) -> Settings
@@ -115,13 +79,9 @@ pub extern "C" fn rockgingham_setup(
 ) -> u64
     ensures { λ r. ⌜ started r (now (words .exit)) (tablesOf (now (locations .entry)) (now (counts .exit)) (now (thresholds .exit))) ≡ setupIn (settingsFrom asked) (now (words .entry)) (tablesOf (now (locations .entry)) (now (counts .entry)) (now (thresholds .entry))) ⌝ }
 {
-    match start::setup(settings_from(asked), locations, counts, thresholds) {
-        Started::Ready(k) => {
-            *words = words_of(k);
-            0
-        }
-        Started::Refused(why) => judge::number_of(why),
-    }
+    let answer = start::setup(settings_from(asked), locations, counts, thresholds);
+    *words = started_words(answer, *words);
+    number_started(answer)
 }
 
 // A fresh start with the record's own settings.
@@ -134,13 +94,9 @@ pub extern "C" fn rockgingham_restart(
 ) -> u64
     ensures { λ r. ⌜ started r (now (words .exit)) (tablesOf (now (locations .entry)) (now (counts .exit)) (now (thresholds .exit))) ≡ restartIn (now (words .entry)) (tablesOf (now (locations .entry)) (now (counts .entry)) (now (thresholds .entry))) ⌝ }
 {
-    match start::restart(record_of(*words), locations, counts, thresholds) {
-        Started::Ready(k) => {
-            *words = words_of(k);
-            0
-        }
-        Started::Refused(why) => judge::number_of(why),
-    }
+    let answer = start::restart(record_of(*words), locations, counts, thresholds);
+    *words = started_words(answer, *words);
+    number_started(answer)
 }
 
 // One reference: 0 Skipped, 1 Again with the place, 2 First.
@@ -157,24 +113,10 @@ pub extern "C" fn rockgingham_refer(
 {
     let r = tracker::refer(record_of(*words), location, locations, counts, thresholds);
     let said = r.answer;
-    match said {
-        Answer::Skipped => {
-            *words = words_of(r.kept);
-            *answer = [0, 0];
-            0
-        }
-        Answer::Again(place) => {
-            *words = words_of(r.kept);
-            *answer = [1, place];
-            0
-        }
-        Answer::First => {
-            *words = words_of(r.kept);
-            *answer = [2, 0];
-            0
-        }
-        Answer::Refused(why) => judge::number_of(why),
-    }
+    let kept = r.kept;
+    *words = kept_words(said, kept, *words);
+    *answer = answer_words(said, *answer);
+    number_answered(said)
 }
 
 // A point: its size, hits, misses and total.
@@ -190,13 +132,9 @@ pub extern "C" fn rockgingham_point(
     ensures { λ r. ⌜ given r (now (point .exit)) ≡ pointIn (now (words .entry)) (shapeFrom believed) number (bucketsOf (now (counts .entry)) (now (thresholds .entry))) (now (point .entry)) ⌝ }
 {
     let shape = shape_from(believed);
-    match points::point(record_of(*words), shape, number, counts, thresholds) {
-        Pointed::At(p) => {
-            *point = [p.size, p.hits, p.misses, p.total];
-            0
-        }
-        Pointed::Refused(why) => judge::number_of(why),
-    }
+    let answer = points::point(record_of(*words), shape, number, counts, thresholds);
+    *point = point_words(answer, *point);
+    number_pointed(answer)
 }
 
 // The same point as a pair of doubles: the size, and misses divided by total.
@@ -212,34 +150,9 @@ pub extern "C" fn rockgingham_plot(
     ensures { λ r. ⌜ given r (now (pair .exit)) ≡ plotIn (now (words .entry)) (shapeFrom believed) number (bucketsOf (now (counts .entry)) (now (thresholds .entry))) (now (pair .entry)) ⌝ }
 {
     let shape = shape_from(believed);
-    match points::plot_point(record_of(*words), shape, number, counts, thresholds) {
-        Plotted::At(p) => {
-            *pair = [p.size, p.ratio];
-            0
-        }
-        Plotted::Refused(why) => judge::number_of(why),
-    }
-}
-
-// An event's words.
-fn event_words(event: Event, taken: usize) -> [u64; 7]
-    ensures { λ r. ⌜ r ≡ kindAndBody event taken ⌝ }
-{
-    let n = taken as u64;
-    match event {
-        Event::Location(location) => [1, n, location, 0, 0, 0, 0],
-        Event::Span { offset, length } => [2, n, offset, length as u64, 0, 0, 0],
-        Event::Restart => [3, n, 0, 0, 0, 0, 0],
-        Event::Setup(body) => [
-            4,
-            n,
-            body.limit as u64,
-            body.start as u64,
-            body.width as u64,
-            body.buckets as u64,
-            body.kind as u64,
-        ],
-    }
+    let answer = points::plot_point(record_of(*words), shape, number, counts, thresholds);
+    *pair = plot_words(answer, *pair);
+    number_plotted(answer)
 }
 
 // The first event of the bytes: its kind, the number of bytes it took, the numbers of its body.
@@ -253,16 +166,6 @@ pub extern "C" fn rockgingham_read(event: &mut [u64; 7], bytes: &[u8]) -> u64
             0
         }
         Reading::Refused(why) => judge::number_of(why),
-    }
-}
-
-// 0 for a whole event written, or the refusal's number.
-fn number_written(answer: Written) -> u64
-    ensures { λ r. ⌜ r ≡ numberOf (saidWritten answer) ⌝ }
-{
-    match answer {
-        Written::Filled(_) => 0,
-        Written::Refused(why) => judge::number_of(why),
     }
 }
 

@@ -1,7 +1,5 @@
-use mathlib.Core.Path.{refl, sym, ap, _∙_}
-use Rattle.rules.specs.Answers.{saidPlotted}
-use Rattle.driver.specs.Words.{plotWords}
-use Rattle.driver.proofs.Laws.{given-into, refused-into}
+use Rattle.words.specs.Words.{plotWords}
+use Rattle.driver.proofs.Laws.{gave}
 use borrow.Author.Needs.{needs}
 use Rattle.driver.proofs.rockgingham_plot.Statement.{statement}
 use Rattle.driver.proofs.rockgingham_plot.Tie as tie
@@ -15,20 +13,14 @@ record-of-requires c κs = search needs
 plot-point-requires : tie.Need-plot-point-requires
 plot-point-requires c κs = search needs
 
-enum-known-p : tie.Need-enum-known-p
-enum-known-p c = search needs
+plot-words-requires : tie.Need-plot-words-requires
+plot-words-requires c κs = search needs
 
-enum-known-why : tie.Need-enum-known-why
-enum-known-why c = search needs
-
-number-of-requires : tie.Need-number-of-requires
-number-of-requires c κs = search needs
+number-plotted-requires : tie.Need-number-plotted-requires
+number-plotted-requires c κs = search needs
 
 returns : tie.Need-returns
-returns c = given-into plotWords _ _ (sym (rw ((c .before .before .before .before .before .record-of .ensures), (c .before .before .before .before .before .before .before .shape-from .ensures)) at (c .before .before .before .before .plot-point .ensures)) ∙ ap saidPlotted (c .before .before .p .given .1)) refl
-
-returns-2 : tie.Need-returns-2
-returns-2 c = refused-into plotWords _ _ (sym (rw ((c .before .before .before .before .before .record-of .ensures), (c .before .before .before .before .before .before .before .shape-from .ensures)) at (c .before .before .before .before .plot-point .ensures)) ∙ ap saidPlotted (c .before .before .why .given .1)) (c .number-of .ensures)
+returns c = gave plotWords _ (rw (c .before .before .before .before .record-of .ensures, c .before .before .before .before .before .before .shape-from .ensures) at (c .before .before .before .plot-point .ensures)) (c .number-plotted .ensures) (c .before .plot-words .ensures)
 
 pub rockgingham-plot-spec : {M : Type 1} → statement M
 rockgingham-plot-spec =
@@ -37,8 +29,6 @@ rockgingham-plot-spec =
     shape-from-requires
     record-of-requires
     plot-point-requires
-    enum-known-p
-    enum-known-why
-    number-of-requires
-    returns
-    returns-2)
+    plot-words-requires
+    number-plotted-requires
+    returns)

@@ -1,6 +1,6 @@
 use mathlib.Core.Path.{sym, ap, _∙_}
 use Rattle.rules.specs.Answers.{saidReading}
-use Rattle.driver.specs.Words.{eventWords}
+use Rattle.words.specs.Words.{eventWords}
 use Rattle.driver.proofs.Laws.{given-into, refused-into}
 use borrow.Author.Needs.{needs}
 use Rattle.driver.proofs.rockgingham_read.Statement.{statement}

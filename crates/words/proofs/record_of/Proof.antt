@@ -1,7 +1,7 @@
 use mathlib.Core.Path.{refl}
 use borrow.Author.Needs.{needs}
-use Rattle.driver.proofs.record_of.Statement.{statement}
-use Rattle.driver.proofs.record_of.Tie as tie
+use Rattle.words.proofs.record_of.Statement.{statement}
+use Rattle.words.proofs.record_of.Tie as tie
 
 array-read-t5 : tie.Need-array-read-t5
 array-read-t5 c = search needs

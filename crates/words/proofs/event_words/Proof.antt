@@ -1,6 +1,6 @@
 use borrow.Author.Needs.{needs}
-use Rattle.driver.proofs.event_words.Statement.{statement}
-use Rattle.driver.proofs.event_words.Tie as tie
+use Rattle.words.proofs.event_words.Statement.{statement}
+use Rattle.words.proofs.event_words.Tie as tie
 
 enum-known-event : tie.Need-enum-known-event
 enum-known-event c = search needs

@@ -1,0 +1,44 @@
+use borrow.Author.Needs.{needs}
+use Rattle.words.proofs.number_answered.Statement.{statement}
+use Rattle.words.proofs.number_answered.Tie as tie
+
+enum-told : tie.Need-enum-told
+enum-told c = search needs
+
+enum-told-2 : tie.Need-enum-told-2
+enum-told-2 c = search needs
+
+enum-told-3 : tie.Need-enum-told-3
+enum-told-3 c = search needs
+
+enum-known-answer : tie.Need-enum-known-answer
+enum-known-answer c = search needs
+
+number-of-requires : tie.Need-number-of-requires
+number-of-requires c κs = search needs
+
+returns : tie.Need-returns
+returns c = rw (c .enum-told .given .1)
+
+returns-2 : tie.Need-returns-2
+returns-2 c = rw (c .enum-told2 .given .1)
+
+returns-3 : tie.Need-returns-3
+returns-3 c = rw (c .enum-told3 .given .1)
+
+returns-4 : tie.Need-returns-4
+returns-4 c = rw (c .before .before .answer .given .1) (c .number-of .ensures)
+
+pub number-answered-spec : {M : Type 1} → statement M
+number-answered-spec =
+    tie.close
+    (tie.spec
+    enum-told
+    enum-told-2
+    enum-told-3
+    enum-known-answer
+    number-of-requires
+    returns
+    returns-2
+    returns-3
+    returns-4)

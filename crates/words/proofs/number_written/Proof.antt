@@ -1,0 +1,22 @@
+use borrow.Author.Needs.{needs}
+use Rattle.words.proofs.number_written.Statement.{statement}
+use Rattle.words.proofs.number_written.Tie as tie
+
+enum-told : tie.Need-enum-told
+enum-told c = search needs
+
+enum-known-answer : tie.Need-enum-known-answer
+enum-known-answer c = search needs
+
+number-of-requires : tie.Need-number-of-requires
+number-of-requires c κs = search needs
+
+returns : tie.Need-returns
+returns c = rw (c .enum-told .given .1)
+
+returns-2 : tie.Need-returns-2
+returns-2 c = rw (c .before .before .answer .given .1) (c .number-of .ensures)
+
+pub number-written-spec : {M : Type 1} → statement M
+number-written-spec =
+    tie.close (tie.spec enum-told enum-known-answer number-of-requires returns returns-2)
