@@ -17,7 +17,7 @@ slice-aggregate-feed : tie.Need-slice-aggregate-feed
 slice-aggregate-feed c = sym (length-take-le (c .before .before .before .before .before .before .before .args .p .left + c .before .before .before .before .before .before .before .args .count) (c .before .before .before .before .before .before .before .args .buffer .now) (omega (arith, c .before .before .before .before .before .before .before .pre)))
 
 feed-requires : tie.Need-feed-requires
-feed-requires c κs = search needs
+feed-requires c κs = tt
 
 after-fed-requires : tie.Need-after-fed-requires
 after-fed-requires c κs =
@@ -26,16 +26,16 @@ after-fed-requires c κs =
     (start .pre .0, rw (length-take-le (start .args .p .left + start .args .count) (start .args .buffer .now) (omega (arith, start .pre))) at most, start .pre .1, start .pre .2)
 
 same-length : tie.Need-same-length
-same-length c = search needs
+same-length c = c .before .before .after-fed .kept .1 .1 .1 .0
 
 same-length-2 : tie.Need-same-length-2
-same-length-2 c = search needs
+same-length-2 c = c .before .before .before .before .before .before .before .before .before .before .feed .kept .1 .1 .0
 
 same-length-3 : tie.Need-same-length-3
-same-length-3 c = search needs
+same-length-3 c = c .before .before .before .before .before .before .before .before .before .before .feed .kept .1 .1 .1 .0
 
 same-length-4 : tie.Need-same-length-4
-same-length-4 c = search needs
+same-length-4 c = c .before .before .before .before .before .before .before .before .before .before .feed .kept .1 .1 .1 .1 .0
 
 returns : tie.Need-returns
 returns c = λ first rest more w e. c .before .before .after-fed .ensures first _ (rw e (follows-more first _ _ rest w more _ _ _ (rw e at (c .before .before .before .before .before .before .before .before .before .before .feed .ensures))))

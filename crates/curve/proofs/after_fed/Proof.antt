@@ -7,7 +7,7 @@ use Rattle.curve.proofs.after_fed.Statement.{statement}
 use Rattle.curve.proofs.after_fed.Tie as tie
 
 refusal-in-requires : tie.Need-refusal-in-requires
-refusal-in-requires c κs = search needs
+refusal-in-requires c κs = tt
 
 add-place : tie.Need-add-place
 add-place c = search needs
@@ -16,10 +16,10 @@ sub-reach : tie.Need-sub-reach
 sub-reach c = search needs
 
 put-refused-line-requires : tie.Need-put-refused-line-requires
-put-refused-line-requires c κs = search needs
+put-refused-line-requires c κs = tt
 
 same-length : tie.Need-same-length
-same-length c = search needs
+same-length c = c .before .before .put-refused-line .kept .0
 
 returns : tie.Need-returns
 returns c = λ first t w. reached-refused w (a-refusal (c .before .before .before .before .before .before .before .before .before .before .args .fed .ending) (c .before .before .before .before .before .before .before .refusal-in .ensures) (c .before .before .before .before .if1 .taken)) (refused-stands (c .before .before .before .before .before .before .before .before .before .before .args .buffer .now) _ _ _ _ (omega (arith, c .before .before .before .before .before .before .before .before .before .before .pre)) (c .before .before .put-refused-line .ensures))
@@ -28,7 +28,7 @@ to-front-requires : tie.Need-to-front-requires
 to-front-requires c κs = search needs
 
 same-length-2 : tie.Need-same-length-2
-same-length-2 c = search needs
+same-length-2 c = c .before .before .to-front .kept .0
 
 returns-2 : tie.Need-returns-2
 returns-2 c = λ first t w.

@@ -2,24 +2,23 @@ use Rattle.rules.specs.Refusals.{bucketsOf}
 use native.Mathlib.Omega.{arith}
 use borrow.Author.Tests.{lt-ltb, le-ltb}
 use Rattle.curve.proofs.Input.{refused-stands, curve-stands}
-use borrow.Author.Needs.{needs}
 use Rattle.curve.proofs.put_end.Statement.{statement}
 use Rattle.curve.proofs.put_end.Tie as tie
 
 put-refused-line-requires : tie.Need-put-refused-line-requires
-put-refused-line-requires c κs = search needs
+put-refused-line-requires c κs = tt
 
 same-length : tie.Need-same-length
-same-length c = search needs
+same-length c = c .before .before .put-refused-line .kept .0
 
 returns : tie.Need-returns
 returns c = rw (lt-ltb 0 _ (c .before .before .before .before .if1 .taken)) (refused-stands (c .before .before .before .before .before .before .before .before .args .out .now) _ _ 7 _ (omega (arith, c .before .before .before .before .before .before .before .before .pre .1)) (c .before .before .put-refused-line .ensures))
 
 put-curve-requires : tie.Need-put-curve-requires
-put-curve-requires c κs = search needs
+put-curve-requires c κs = tt
 
 same-length-2 : tie.Need-same-length-2
-same-length-2 c = search needs
+same-length-2 c = c .before .before .put-curve .kept .0
 
 returns-2 : tie.Need-returns-2
 returns-2 c = rw (le-ltb 0 _ (c .before .before .before .before .if1 .left)) (curve-stands (c .before .before .before .before .before .before .before .before .args .out .now) _ _ (c .before .before .before .before .before .before .before .before .args .k) (bucketsOf (c .before .before .before .before .before .before .before .before .args .counts .now) (c .before .before .before .before .before .before .before .before .args .thresholds .now)) (c .before .before .before .before .before .before .before .before .pre .1) (c .before .before .before .before .before .before .before .before .pre .0) (c .before .before .put-curve .ensures))

@@ -21,7 +21,7 @@ part-read-end : tie.Need-part-read-end
 part-read-end c = search needs
 
 read-requires : tie.Need-read-requires
-read-requires c κs = search needs
+read-requires c κs = tt
 
 sub-count : tie.Need-sub-count
 sub-count c = search needs
@@ -33,7 +33,7 @@ part-count-end : tie.Need-part-count-end
 part-count-end c = search needs
 
 count-requires : tie.Need-count-requires
-count-requires c κs = search needs
+count-requires c κs = tt
 
 same-length : tie.Need-same-length
 same-length c = search needs
@@ -48,7 +48,7 @@ returns-2 : tie.Need-returns-2
 returns-2 c = (tt, kept (c .before .before .before .before .before .before .before .args .have) (c .before .before .before .before .before .before .before .args .buffer .now) (c .before .before .before .before .read .last .1 .0) (search needs))
 
 errno-requires : tie.Need-errno-requires
-errno-requires c κs = search needs
+errno-requires c κs = tt
 
 same-length-3 : tie.Need-same-length-3
 same-length-3 c = search needs

@@ -1,9 +1,8 @@
-use borrow.Author.Needs.{needs}
 use Rattle.driver.proofs.rockgingham_hash.Statement.{statement}
 use Rattle.driver.proofs.rockgingham_hash.Tie as tie
 
 hash-of-requires : tie.Need-hash-of-requires
-hash-of-requires c κs = search needs
+hash-of-requires c κs = tt
 
 returns : tie.Need-returns
 returns c = c .hash-of .ensures

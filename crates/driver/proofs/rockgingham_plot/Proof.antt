@@ -1,23 +1,22 @@
 use Rattle.words.specs.Words.{plotWords}
 use Rattle.driver.proofs.Laws.{gave}
-use borrow.Author.Needs.{needs}
 use Rattle.driver.proofs.rockgingham_plot.Statement.{statement}
 use Rattle.driver.proofs.rockgingham_plot.Tie as tie
 
 shape-from-requires : tie.Need-shape-from-requires
-shape-from-requires c κs = search needs
+shape-from-requires c κs = tt
 
 record-of-requires : tie.Need-record-of-requires
-record-of-requires c κs = search needs
+record-of-requires c κs = tt
 
 plot-point-requires : tie.Need-plot-point-requires
-plot-point-requires c κs = search needs
+plot-point-requires c κs = tt
 
 plot-words-requires : tie.Need-plot-words-requires
-plot-words-requires c κs = search needs
+plot-words-requires c κs = tt
 
 number-plotted-requires : tie.Need-number-plotted-requires
-number-plotted-requires c κs = search needs
+number-plotted-requires c κs = tt
 
 returns : tie.Need-returns
 returns c = gave plotWords _ (rw (c .before .before .before .before .record-of .ensures, c .before .before .before .before .before .before .shape-from .ensures) at (c .before .before .before .plot-point .ensures)) (c .number-plotted .ensures) (c .before .plot-words .ensures)

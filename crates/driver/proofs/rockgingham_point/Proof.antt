@@ -1,23 +1,22 @@
 use Rattle.words.specs.Words.{pointWords}
 use Rattle.driver.proofs.Laws.{gave}
-use borrow.Author.Needs.{needs}
 use Rattle.driver.proofs.rockgingham_point.Statement.{statement}
 use Rattle.driver.proofs.rockgingham_point.Tie as tie
 
 shape-from-requires : tie.Need-shape-from-requires
-shape-from-requires c κs = search needs
+shape-from-requires c κs = tt
 
 record-of-requires : tie.Need-record-of-requires
-record-of-requires c κs = search needs
+record-of-requires c κs = tt
 
 point-requires : tie.Need-point-requires
-point-requires c κs = search needs
+point-requires c κs = tt
 
 point-words-requires : tie.Need-point-words-requires
-point-words-requires c κs = search needs
+point-words-requires c κs = tt
 
 number-pointed-requires : tie.Need-number-pointed-requires
-number-pointed-requires c κs = search needs
+number-pointed-requires c κs = tt
 
 returns : tie.Need-returns
 returns c = gave pointWords _ (rw (c .before .before .before .before .record-of .ensures, c .before .before .before .before .before .before .shape-from .ensures) at (c .before .before .before .point .ensures)) (c .number-pointed .ensures) (c .before .point-words .ensures)

@@ -7,19 +7,19 @@ use Rattle.driver.proofs.rockgingham_read.Statement.{statement}
 use Rattle.driver.proofs.rockgingham_read.Tie as tie
 
 read-requires : tie.Need-read-requires
-read-requires c κs = search needs
+read-requires c κs = tt
 
 enum-known-e : tie.Need-enum-known-e
 enum-known-e c = search needs
 
 event-words-requires : tie.Need-event-words-requires
-event-words-requires c κs = search needs
+event-words-requires c κs = tt
 
 enum-known-why : tie.Need-enum-known-why
 enum-known-why c = search needs
 
 number-of-requires : tie.Need-number-of-requires
-number-of-requires c κs = search needs
+number-of-requires c κs = tt
 
 returns : tie.Need-returns
 returns c = given-into eventWords _ _ (sym (c .before .before .before .before .read .ensures) ∙ ap saidReading (c .before .before .e .given .1)) (c .event-words .ensures)

@@ -1,31 +1,30 @@
 use Rattle.driver.proofs.Laws.{stepped-is}
-use borrow.Author.Needs.{needs}
 use Rattle.driver.proofs.rockgingham_refer.Statement.{statement}
 use Rattle.driver.proofs.rockgingham_refer.Tie as tie
 
 record-of-requires : tie.Need-record-of-requires
-record-of-requires c κs = search needs
+record-of-requires c κs = tt
 
 refer-requires : tie.Need-refer-requires
-refer-requires c κs = search needs
+refer-requires c κs = tt
 
 kept-words-requires : tie.Need-kept-words-requires
-kept-words-requires c κs = search needs
+kept-words-requires c κs = tt
 
 answer-words-requires : tie.Need-answer-words-requires
-answer-words-requires c κs = search needs
+answer-words-requires c κs = tt
 
 number-answered-requires : tie.Need-number-answered-requires
-number-answered-requires c κs = search needs
+number-answered-requires c κs = tt
 
 same-length : tie.Need-same-length
-same-length c = search needs
+same-length c = c .before .before .before .before .before .before .before .before .before .before .before .before .refer .kept .1 .1 .0
 
 same-length-2 : tie.Need-same-length-2
-same-length-2 c = search needs
+same-length-2 c = c .before .before .before .before .before .before .before .before .before .before .before .before .refer .kept .1 .1 .1 .0
 
 same-length-3 : tie.Need-same-length-3
-same-length-3 c = search needs
+same-length-3 c = c .before .before .before .before .before .before .before .before .before .before .before .before .refer .kept .1 .1 .1 .1 .0
 
 returns : tie.Need-returns
 returns c = stepped-is _ _ (rw (c .before .before .before .before .before .before .before .before .before .before .before .before .before .before .before .before .record-of .ensures) at (c .before .before .before .before .before .before .before .before .before .before .before .before .refer .ensures)) (c .number-answered .ensures) (c .before .before .before .kept-words .ensures) (c .before .answer-words .ensures)

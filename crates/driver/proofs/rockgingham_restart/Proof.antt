@@ -1,25 +1,24 @@
 use Rattle.driver.proofs.Laws.{began}
-use borrow.Author.Needs.{needs}
 use Rattle.driver.proofs.rockgingham_restart.Statement.{statement}
 use Rattle.driver.proofs.rockgingham_restart.Tie as tie
 
 record-of-requires : tie.Need-record-of-requires
-record-of-requires c κs = search needs
+record-of-requires c κs = tt
 
 restart-requires : tie.Need-restart-requires
-restart-requires c κs = search needs
+restart-requires c κs = tt
 
 started-words-requires : tie.Need-started-words-requires
-started-words-requires c κs = search needs
+started-words-requires c κs = tt
 
 number-started-requires : tie.Need-number-started-requires
-number-started-requires c κs = search needs
+number-started-requires c κs = tt
 
 same-length : tie.Need-same-length
-same-length c = search needs
+same-length c = c .before .before .before .before .before .before .before .restart .kept .1 .1 .0
 
 same-length-2 : tie.Need-same-length-2
-same-length-2 c = search needs
+same-length-2 c = c .before .before .before .before .before .before .before .restart .kept .1 .1 .1 .0
 
 returns : tie.Need-returns
 returns c = began _ (rw (c .before .before .before .before .before .before .before .before .before .before .record-of .ensures) at (c .before .before .before .before .before .before .before .restart .ensures)) (c .number-started .ensures) (c .before .started-words .ensures)

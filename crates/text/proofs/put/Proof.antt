@@ -45,7 +45,7 @@ add-result : tie.Need-add-result Inv-loop μ-loop
 add-result c = search needs
 
 same-length : tie.Need-same-length Inv-loop μ-loop
-same-length c = search needs
+same-length c = c .before .loop .inv .1
 
 returns : tie.Need-returns Inv-loop μ-loop
 returns c =

@@ -1,5 +1,5 @@
 use native.Mathlib.Omega.{arith}
-use mathlib.Core.Path.{sym, ap, _∙_}
+use mathlib.Core.Path.{refl, sym, ap, _∙_}
 use Rattle.rules.specs.Answers.{saidPointed}
 use Rattle.text.proofs.Laws.{adds-then, point-needed}
 use borrow.Author.Needs.{needs}
@@ -7,7 +7,7 @@ use Rattle.text.proofs.put_body.Statement.{statement}
 use Rattle.text.proofs.put_body.Tie as tie
 
 point-at-requires : tie.Need-point-at-requires
-point-at-requires c κs = search needs
+point-at-requires c κs = tt
 
 enum-told : tie.Need-enum-told
 enum-told c = search needs
@@ -16,7 +16,7 @@ put-points-requires : tie.Need-put-points-requires
 put-points-requires c κs = (search needs, omega (arith, point-needed (c .before .before .before .before .before .before .before .args .k) 0 _ (sym (c .before .before .before .point-at .ensures) ∙ ap saidPointed (c .before .enum-told .given .1)), c .before .before .before .before .before .before .before .pre), search needs)
 
 slice-aggregate-put : tie.Need-slice-aggregate-put
-slice-aggregate-put c = search needs
+slice-aggregate-put c = refl
 
 put-requires : tie.Need-put-requires
 put-requires c κs = search needs
@@ -25,19 +25,19 @@ enum-told-2 : tie.Need-enum-told-2
 enum-told-2 c = search needs
 
 slice-aggregate-put-2 : tie.Need-slice-aggregate-put-2
-slice-aggregate-put-2 c = search needs
+slice-aggregate-put-2 c = refl
 
 put-requires-2 : tie.Need-put-requires-2
 put-requires-2 c κs = search needs
 
 same-length : tie.Need-same-length
-same-length c = search needs
+same-length c = c .before .before .put .kept .0 ∙ c .before .before .before .before .before .before .before .put-points .kept .0
 
 returns : tie.Need-returns
 returns c = rw (sym (c .before .before .before .before .before .before .before .before .before .before .before .point-at .ensures) ∙ ap saidPointed (c .before .before .before .before .before .before .before .before .before .enum-told .given .1)) (adds-then (c .before .before .before .before .before .before .before .put-points .ensures .0) (c .before .before .put .ensures))
 
 same-length-2 : tie.Need-same-length-2
-same-length-2 c = search needs
+same-length-2 c = c .before .before .put2 .kept .0
 
 returns-2 : tie.Need-returns-2
 returns-2 c = rw (sym (c .before .before .before .before .before .before .before .point-at .ensures) ∙ ap saidPointed (c .before .before .before .before .before .enum-told2 .given .1)) (c .before .before .put2 .ensures)

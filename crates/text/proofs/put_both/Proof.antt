@@ -1,3 +1,4 @@
+use mathlib.Core.Path.{_∙_}
 use borrow.Author.Needs.{needs}
 use Rattle.text.proofs.Laws.{adds-then}
 use Rattle.text.proofs.put_both.Statement.{statement}
@@ -10,7 +11,7 @@ put-number-requires : tie.Need-put-number-requires
 put-number-requires c κs = search needs
 
 same-length : tie.Need-same-length
-same-length c = search needs
+same-length c = c .before .before .put-number .kept .0 ∙ c .before .before .before .before .before .before .put .kept .0
 
 returns : tie.Need-returns
 returns c = (adds-then (c .before .before .before .before .before .before .put .ensures) (c .before .before .put-number .ensures .0), search needs)

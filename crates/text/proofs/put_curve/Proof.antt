@@ -1,6 +1,6 @@
+use mathlib.Core.Path.{_∙_}
 use native.Mathlib.Omega.{arith}
 use Rattle.text.proofs.Laws.{adds-then, adds-front, room}
-use borrow.Author.Needs.{needs}
 use Rattle.text.proofs.put_curve.Statement.{statement}
 use Rattle.text.proofs.put_curve.Tie as tie
 
@@ -14,7 +14,7 @@ put-body-requires : tie.Need-put-body-requires
 put-body-requires c κs = (c .before .before .before .put-first-line .ensures .1, room (c .before .before .before .before .before .before .before .before .before .args .out .now) (c .before .before .before .before .before .before .before .before .before .args .counts .now) (c .before .before .before .before .before .if1 .left) .1, omega (arith, room (c .before .before .before .before .before .before .before .before .before .args .out .now) (c .before .before .before .before .before .before .before .before .before .args .counts .now) (c .before .before .before .before .before .if1 .left)))
 
 same-length : tie.Need-same-length
-same-length c = search needs
+same-length c = c .before .before .put-body .kept .0 ∙ c .before .before .before .before .before .before .put-first-line .kept .0
 
 returns-2 : tie.Need-returns-2
 returns-2 c = adds-front (c .before .before .before .before .before .before .before .before .if1 .left) (adds-then (c .before .before .before .before .before .before .put-first-line .ensures .0) (c .before .before .put-body .ensures))

@@ -1,3 +1,4 @@
+use mathlib.Core.Path.{refl, _∙_}
 use Rattle.text.proofs.Laws.{adds-then}
 use borrow.Author.Needs.{needs}
 use Rattle.text.proofs.put_last_two.Statement.{statement}
@@ -10,13 +11,13 @@ put-both-requires-2 : tie.Need-put-both-requires-2
 put-both-requires-2 c κs = search needs
 
 slice-aggregate-put : tie.Need-slice-aggregate-put
-slice-aggregate-put c = search needs
+slice-aggregate-put c = refl
 
 put-requires : tie.Need-put-requires
 put-requires c κs = search needs
 
 same-length : tie.Need-same-length
-same-length c = search needs
+same-length c = c .before .before .put .kept .0 ∙ c .before .before .before .before .before .before .before .put-both2 .kept .0 ∙ c .before .before .before .before .before .before .before .before .before .before .before .put-both .kept .0
 
 returns : tie.Need-returns
 returns c = (adds-then (c .before .before .before .before .before .before .before .before .before .before .before .put-both .ensures .0) (adds-then (c .before .before .before .before .before .before .before .put-both2 .ensures .0) (c .before .before .put .ensures)), search needs)

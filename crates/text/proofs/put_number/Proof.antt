@@ -6,7 +6,7 @@ use Rattle.text.proofs.put_number.Statement.{statement}
 use Rattle.text.proofs.put_number.Tie as tie
 
 decimal-requires : tie.Need-decimal-requires
-decimal-requires c κs = search needs
+decimal-requires c κs = tt
 
 array-share-prefix-digits : tie.Need-array-share-prefix-digits
 array-share-prefix-digits c = search needs
@@ -20,7 +20,7 @@ put-requires c κs =
     omega (arith, decimal-spelled (made .result) (c .before .before .before .before .before .args .n) (search needs) (made .ensures .1 .0) .few, made .ensures .0 .1)
 
 same-length : tie.Need-same-length
-same-length c = search needs
+same-length c = c .before .before .put .kept .0
 
 returns : tie.Need-returns
 returns c =

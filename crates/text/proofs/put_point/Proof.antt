@@ -6,7 +6,7 @@ use Rattle.text.proofs.put_point.Statement.{statement}
 use Rattle.text.proofs.put_point.Tie as tie
 
 point-at-requires : tie.Need-point-at-requires
-point-at-requires c κs = search needs
+point-at-requires c κs = tt
 
 enum-known-p : tie.Need-enum-known-p
 enum-known-p c = search needs
@@ -18,7 +18,7 @@ enum-told : tie.Need-enum-told
 enum-told c = search needs
 
 same-length : tie.Need-same-length
-same-length c = search needs
+same-length c = c .before .before .put-point-line .kept .0
 
 returns : tie.Need-returns
 returns c = (rw (sym (c .before .before .before .before .before .before .before .point-at .ensures) ∙ ap saidPointed (c .before .before .before .before .before .p .given .1)) (c .before .before .put-point-line .ensures .0), search needs)

@@ -1,3 +1,4 @@
+use mathlib.Core.Path.{refl, _∙_}
 use Rattle.text.proofs.Laws.{adds-then}
 use borrow.Author.Needs.{needs}
 use Rattle.text.proofs.put_point_line.Statement.{statement}
@@ -7,16 +8,16 @@ put-number-requires : tie.Need-put-number-requires
 put-number-requires c κs = search needs
 
 slice-aggregate-put-last-two : tie.Need-slice-aggregate-put-last-two
-slice-aggregate-put-last-two c = search needs
+slice-aggregate-put-last-two c = refl
 
 slice-aggregate-put-last-two-2 : tie.Need-slice-aggregate-put-last-two-2
-slice-aggregate-put-last-two-2 c = search needs
+slice-aggregate-put-last-two-2 c = refl
 
 put-last-two-requires : tie.Need-put-last-two-requires
 put-last-two-requires c κs = search needs
 
 same-length : tie.Need-same-length
-same-length c = search needs
+same-length c = c .before .before .put-last-two .kept .0 ∙ c .before .before .before .before .before .before .before .before .put-number .kept .0
 
 returns : tie.Need-returns
 returns c = (adds-then (c .before .before .before .before .before .before .before .before .put-number .ensures .0) (c .before .before .put-last-two .ensures .0), search needs)

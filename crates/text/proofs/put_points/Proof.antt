@@ -2,7 +2,7 @@ use borrow.Author.Needs.{needs}
 use native.Mathlib.Omega.{arith}
 use native.Mathlib.Numerals.{add-one}
 use Prim.Native.Nat.{_+_, _-_, _*_, _≤_}
-use mathlib.Core.Path.{_≡_, refl}
+use mathlib.Core.Path.{_≡_, refl, _∙_}
 use lib.ListN.{length}
 use Rattle.rules.specs.Refusals.{bucketsOf}
 use Rattle.text.specs.Text.{linesTo, Adds}
@@ -36,10 +36,10 @@ unfolding linesTo
 loop-again c =
     let head = c .before .before .before .before .before .loop in
     let line = c .before .before .put-point .ensures in
-    (search needs, search needs, omega (arith, line .1, head .inv .2), rw (add-one (head .number)) (adds-then (head .inv .3) (line .0)))
+    (search needs, c .before .before .put-point .kept .0 ∙ head .inv .1, omega (arith, line .1, head .inv .2), rw (add-one (head .number)) (adds-then (head .inv .3) (line .0)))
 
 same-length : tie.Need-same-length Inv-loop μ-loop
-same-length c = search needs
+same-length c = c .before .loop .inv .1
 
 returns : tie.Need-returns Inv-loop μ-loop
 returns c =

@@ -1,3 +1,4 @@
+use mathlib.Core.Path.{refl}
 use borrow.Author.Tests.{lt-ltb, le-ltb}
 use Rattle.text.proofs.Laws.{adds-front}
 use borrow.Author.Needs.{needs}
@@ -8,16 +9,16 @@ returns : tie.Need-returns
 returns c = rw (lt-ltb _ 53 (c .if1 .taken))
 
 slice-aggregate-put-last-two : tie.Need-slice-aggregate-put-last-two
-slice-aggregate-put-last-two c = search needs
+slice-aggregate-put-last-two c = refl
 
 slice-aggregate-put-last-two-2 : tie.Need-slice-aggregate-put-last-two-2
-slice-aggregate-put-last-two-2 c = search needs
+slice-aggregate-put-last-two-2 c = refl
 
 put-last-two-requires : tie.Need-put-last-two-requires
 put-last-two-requires c κs = search needs
 
 same-length : tie.Need-same-length
-same-length c = search needs
+same-length c = c .before .before .put-last-two .kept .0
 
 returns-2 : tie.Need-returns-2
 returns-2 c = adds-front (le-ltb _ 53 (c .before .before .before .before .before .before .if1 .left)) (c .before .before .put-last-two .ensures .0)

@@ -6,19 +6,19 @@ enum-told : tie.Need-enum-told
 enum-told c = search needs
 
 words-of-requires : tie.Need-words-of-requires
-words-of-requires c κs = search needs
+words-of-requires c κs = tt
 
 enum-told-2 : tie.Need-enum-told-2
 enum-told-2 c = search needs
 
 words-of-requires-2 : tie.Need-words-of-requires-2
-words-of-requires-2 c κs = search needs
+words-of-requires-2 c κs = tt
 
 enum-told-3 : tie.Need-enum-told-3
 enum-told-3 c = search needs
 
 words-of-requires-3 : tie.Need-words-of-requires-3
-words-of-requires-3 c κs = search needs
+words-of-requires-3 c κs = tt
 
 enum-told-4 : tie.Need-enum-told-4
 enum-told-4 c = search needs

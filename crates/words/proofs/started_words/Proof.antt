@@ -6,7 +6,7 @@ enum-known-answer : tie.Need-enum-known-answer
 enum-known-answer c = search needs
 
 words-of-requires : tie.Need-words-of-requires
-words-of-requires c κs = search needs
+words-of-requires c κs = tt
 
 enum-told : tie.Need-enum-told
 enum-told c = search needs
