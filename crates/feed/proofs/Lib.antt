@@ -1,4 +1,3 @@
-pub mod Reading
 pub mod Laws
 pub mod Pieces
 pub mod Runs

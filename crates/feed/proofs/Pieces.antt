@@ -12,7 +12,7 @@ use Rattle.rules.specs.Events.{readOf}
 use Rattle.rules.specs.Refusals.{Held}
 use Rattle.rules.proofs.Events.{taken}
 use Rattle.feed.specs.Feed.{End, whole, inside, Feeding, further, afterReading, feedOf, onward, resumed}
-use Rattle.feed.proofs.Reading.{read-more, read-short, read-refused}
+use Rattle.rules.proofs.Fronts.{read-more, read-short, read-refused}
 use Rattle.feed.proofs.Laws.{feed-reads, by-feeding}
 
 -- ---- where feeding ends

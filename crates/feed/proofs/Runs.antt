@@ -11,7 +11,7 @@ use Rattle.rules.proofs.Tests.{cases, clash}
 use Rattle.rules.proofs.Events.{taken}
 use Rattle.feed.specs.Feed.{Feeding, further, feedOf}
 use Rattle.feed.specs.Past.{pastAfter, freshStart, none, one, Ran}
-use Rattle.feed.proofs.Reading.{drop-take, read-front}
+use Rattle.rules.proofs.Fronts.{drop-take, read-front}
 use Rattle.feed.proofs.Laws.{Took, by-feeding}
 
 -- nothing was taken

@@ -2,10 +2,10 @@
 use Prim.Native.Nat.{ℕ, zero, suc, _+_, _≤_, _<_}
 use mathlib.Core.Path.{_≡_, refl, sym, ap, _∙_}
 use mathlib.Core.List.{List, [], _∷_, map}
-use native.Mathlib.Nat.{zero-add, suc-add, add-zero}
+use native.Mathlib.Nat.{zero-add, add-zero}
 use native.Mathlib.Omega.{arith}
 use lib.ListN.{length, drop, length-drop, drop-of-length-le}
-use lib.Seq.{drop-nil}
+use lib.Seq.{drop-drop}
 use denote.Ref.{RefT, now}
 use Rattle.rules.specs.declared.Event.{Event}
 use Rattle.rules.specs.declared.Refusal.{Refusal}
@@ -17,11 +17,6 @@ use Rattle.reader.specs.declared.Reader.{Reader}
 use Rattle.reader.specs.declared.Moved.{Moved}
 use Rattle.reader.specs.declared.Stepped.{Stepped}
 use Rattle.reader.specs.Reader.{leftAt, readAt, past, placeAfter, stepAt, saidStepped, begun, nextOf, saidMoved, wholeTo, wholeOf, takenBy, frontOf, steps, readings}
-
-pub drop-drop : (m n : ℕ) (s : List ℕ) → drop (m + n) s ≡ drop n (drop m s)
-drop-drop zero n s = rw zero-add
-drop-drop (suc m) n [] = rw suc-add (sym (drop-nil n))
-drop-drop (suc m) n (x ∷ s) = rw suc-add (drop-drop m n s)
 
 -- ---- a place at the end of the bytes or beyond it
 
@@ -43,7 +38,7 @@ left-after bytes at = by (readAt bytes at)
   where
     by : (q : Said Got) → drop (past at q) bytes ≡ unreadAfter q (drop at bytes)
     by (refused n) = refl
-    by (gives g) = drop-drop at (g .taken) bytes
+    by (gives g) = sym (drop-drop (g .taken) at bytes)
 
 -- the same by the promise of `next` alone
 pub moved-left : (r : Reader) (m : Moved) → saidMoved m ≡ nextOf r → leftAt (now (m .reader .src)) (m .reader .at) ≡ unreadOf (leftAt (now (r .src)) (r .at))
@@ -109,7 +104,7 @@ whole-ends bytes = to (length bytes) bytes (omega arith)
     to zero s h = (7, read-empty s (omega arith))
     to (suc m) s h = said-cases (readOf s)
         (λ n e. (n, rw e e))
-        (λ g e. let t = taken s e in rw (e, drop-drop) (to m (drop (g .taken) s) (simp length-drop (omega arith))))
+        (λ g e. let t = taken s e in rw (e, ← drop-drop) (to m (drop (g .taken) s) (simp length-drop (omega arith))))
 
 -- ---- a count of them, by steps
 
@@ -149,7 +144,7 @@ module _ (bytes : List ℕ) (events at : ℕ) (counted : Counted bytes events at
     pub counted-more : Counted bytes (events + 1) (s .at)
     counted-more =
         let one = whole-gives (leftAt bytes at) _ got-at in
-        let left : leftAt bytes (s .at) ≡ drop n (leftAt bytes at) = rw past-at (drop-drop at n bytes) in
+        let left : leftAt bytes (s .at) ≡ drop n (leftAt bytes at) = rw past-at (sym (drop-drop n at bytes)) in
         let count = rw one at (counted .0) in
         let place = rw one at (counted .1) in
         (rw left (omega arith), rw (left, past-at) (omega arith), omega (arith, counted-ahead), counted-ahead .1)

@@ -15,5 +15,6 @@ pub mod Bounds
 pub mod Calls
 pub mod LittleEndian
 pub mod Events
+pub mod Fronts
 pub mod Round
 pub mod Report

@@ -9,7 +9,7 @@ ghost use Prim.Native.Nat.{_+_, _≤_};
 ghost use lib.ListN.{length};
 ghost use Rattle.rules.specs.Refusals.{bucketsOf};
 ghost use Rattle.rules.specs.Answers.{saidPointed};
-ghost use Rattle.text.specs.Text.{decimal, newline, firstLine, pointLine, shapeOf, pointAt, lineOf, linesTo, pointsOr, curveText, Adds, placed, curveIn, refusedIn};
+ghost use Rattle.text.specs.Text.{decimal, newline, firstLine, pointLine, pointAt, lineOf, linesTo, pointsOr, Adds, placed, curveIn, refusedIn};
 
 // ---- text in a buffer, behind the first bytes of it
 

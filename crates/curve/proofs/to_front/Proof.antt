@@ -3,7 +3,7 @@ use native.Mathlib.Omega.{arith}
 use Prim.Native.Nat.{_+_, _-_, _≤_}
 use mathlib.Core.Path.{_≡_, refl, sym, ap, _∙_}
 use lib.ListN.{take, drop}
-use Rattle.feed.proofs.Reading.{drop-take}
+use Rattle.rules.proofs.Fronts.{drop-take}
 use Rattle.curve.proofs.Laws.{Moved, moved-none, moved-more}
 use Rattle.curve.proofs.to_front.Statement.{statement}
 use Rattle.curve.proofs.to_front.Tie as tie

@@ -2,12 +2,12 @@ use borrow.Author.Needs.{needs}
 use native.Mathlib.Omega.{arith}
 use Prim.Native.Nat.{_-_, _≤_, _<_}
 use mathlib.Core.Path.{_≡_, refl, sym, ap, _∙_}
-use lib.ListN.{length, drop, length-drop}
-use lib.Seq.{take-all}
+use lib.ListN.{length, drop}
 use denote.Ref.{now}
 use Rattle.rules.specs.Answers.{gives, Got, saidReading}
 use Rattle.rules.specs.Events.{readOf}
 use Rattle.rules.specs.Refusals.{held}
+use Rattle.trace.proofs.Laws.{from-place}
 use Rattle.feed.proofs.Loop.{Going, going-none, at-end, at-unread, ahead, at-refused, goes-on}
 use Rattle.feed.proofs.feed.Statement.{statement}
 use Rattle.feed.proofs.feed.Tie as tie
@@ -26,7 +26,7 @@ found : (d : tie.After-read Inv-loop μ-loop) → saidReading (d .read .result) 
 found d =
     let bytes = now (d .before .before .before .before .before .before .before .before .args .bytes) in
     let at = d .before .before .before .loop .at in
-    d .read .ensures ∙ ap readOf (take-all (length bytes - at) (drop at bytes) (rw length-drop (omega arith)))
+    d .read .ensures ∙ ap readOf (from-place bytes at)
 
 abbrev got : tie.After-event Inv-loop μ-loop → Got
 got d = record { event = d .event .given .0 .0; taken = d .event .given .0 .1 .0 }

@@ -4,7 +4,6 @@ use Rattle.reader.proofs.Walks.{_≡_, refl, [], _∷_, Holds, URA, nam
 use Rattle.reader.specs.declared.Reader.{Reader}
 use Rattle.reader.specs.Reader.{leftAt}
 use Rattle.reader.proofs.Reader.Laws as T′
-use Rattle.reader.proofs.left_at as left-at
 use Rattle.reader.proofs.left_at.Symbol as left-at-def
 use Rattle.reader.proofs.left_at.Symbol.{name as #left-at}
 use Rattle.reader.proofs.left_at.Met as left-at-thm
