@@ -34,6 +34,10 @@ pub stepped-is : {o : Outcome Reply} {s : Said Reply} {k : Record} {t : Tables} 
     → referred n new answer t ≡ stepped o old values
 stepped-is old values e number words answer = rw (← e, number, words, answer)
 
+pub unstepped : {o : Outcome Reply} {s : Said Reply} {k : Record} {t : Tables} (old values : List ℕ) {n m : ℕ}
+    → record { said = s; left = record { kept = k; tables = t } } ≡ o → s ≡ refused m → n ≡ m → referred n old values t ≡ stepped o old values
+unstepped old values e is number = rw (← e, is, number)
+
 -- a written event
 pub wrote : {f : Filling} {s : Said ℕ} {m : ℕ} {buffer : List ℕ} → record { said = s; buffer = buffer } ≡ f → m ≡ numberOf s → given m buffer ≡ written f
 wrote e number = rw (← e, number)

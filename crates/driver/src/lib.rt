@@ -1,5 +1,6 @@
 // What a driver in C links: include/rockgingham.h says the same for its readers. Every function takes anything and, but for the hash,
 // answers 0, or the number of a refusal, which changes no word, table or byte.
+use rules::Answer;
 use rules::Body;
 use rules::Event;
 use rules::Hashing;
@@ -114,6 +115,9 @@ pub extern "C" fn rockgingham_refer(
     let r = tracker::refer(record_of(*words), location, locations, counts, thresholds);
     let said = r.answer;
     let kept = r.kept;
+    if let Answer::Refused(why) = said {
+        return judge::number_of(why);
+    }
     *words = kept_words(said, kept, *words);
     *answer = answer_words(said, *answer);
     number_answered(said)

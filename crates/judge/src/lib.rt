@@ -57,10 +57,10 @@ pub fn torn(k: Record) -> bool
 fn shorter(entries: u64, buckets: u64) -> bool
     ensures { λ r. ⌜ r ≡ ltb entries (needed buckets) ⌝ }
 {
-    if entries < 2 {
+    if 0xffff_ffff_ffff_fffd < buckets {
         return true;
     }
-    entries - 2 < buckets
+    entries < buckets + 2
 }
 
 // Whether a bucket table is too short.

@@ -1,4 +1,7 @@
-use Rattle.driver.proofs.Laws.{stepped-is}
+use mathlib.Core.Path.{ap}
+use Rattle.rules.specs.Answers.{saidAnswer}
+use Rattle.driver.proofs.Laws.{stepped-is, unstepped}
+use borrow.Author.Needs.{needs}
 use Rattle.driver.proofs.rockgingham_refer.Statement.{statement}
 use Rattle.driver.proofs.rockgingham_refer.Tie as tie
 
@@ -7,6 +10,24 @@ record-of-requires c κs = tt
 
 refer-requires : tie.Need-refer-requires
 refer-requires c κs = tt
+
+enum-known-said : tie.Need-enum-known-said
+enum-known-said c = search needs
+
+number-of-requires : tie.Need-number-of-requires
+number-of-requires c κs = tt
+
+same-length : tie.Need-same-length
+same-length c = c .before .before .before .before .before .before .before .before .before .before .before .refer .kept .1 .1 .0
+
+same-length-2 : tie.Need-same-length-2
+same-length-2 c = c .before .before .before .before .before .before .before .before .before .before .before .refer .kept .1 .1 .1 .0
+
+same-length-3 : tie.Need-same-length-3
+same-length-3 c = c .before .before .before .before .before .before .before .before .before .before .before .refer .kept .1 .1 .1 .1 .0
+
+returns : tie.Need-returns
+returns c = unstepped _ _ (rw (c .before .before .before .before .before .before .before .before .before .before .before .before .before .before .before .record-of .ensures) at (c .before .before .before .before .before .before .before .before .before .before .before .refer .ensures)) (ap saidAnswer (c .before .before .said .given .1)) (c .number-of .ensures)
 
 kept-words-requires : tie.Need-kept-words-requires
 kept-words-requires c κs = tt
@@ -17,17 +38,17 @@ answer-words-requires c κs = tt
 number-answered-requires : tie.Need-number-answered-requires
 number-answered-requires c κs = tt
 
-same-length : tie.Need-same-length
-same-length c = c .before .before .before .before .before .before .before .before .before .before .before .before .refer .kept .1 .1 .0
+same-length-4 : tie.Need-same-length-4
+same-length-4 c = c .before .before .before .before .before .before .before .before .before .before .before .before .before .refer .kept .1 .1 .0
 
-same-length-2 : tie.Need-same-length-2
-same-length-2 c = c .before .before .before .before .before .before .before .before .before .before .before .before .refer .kept .1 .1 .1 .0
+same-length-5 : tie.Need-same-length-5
+same-length-5 c = c .before .before .before .before .before .before .before .before .before .before .before .before .before .refer .kept .1 .1 .1 .0
 
-same-length-3 : tie.Need-same-length-3
-same-length-3 c = c .before .before .before .before .before .before .before .before .before .before .before .before .refer .kept .1 .1 .1 .1 .0
+same-length-6 : tie.Need-same-length-6
+same-length-6 c = c .before .before .before .before .before .before .before .before .before .before .before .before .before .refer .kept .1 .1 .1 .1 .0
 
-returns : tie.Need-returns
-returns c = stepped-is _ _ (rw (c .before .before .before .before .before .before .before .before .before .before .before .before .before .before .before .before .record-of .ensures) at (c .before .before .before .before .before .before .before .before .before .before .before .before .refer .ensures)) (c .number-answered .ensures) (c .before .before .before .kept-words .ensures) (c .before .answer-words .ensures)
+returns-2 : tie.Need-returns-2
+returns-2 c = stepped-is _ _ (rw (c .before .before .before .before .before .before .before .before .before .before .before .before .before .before .before .before .before .record-of .ensures) at (c .before .before .before .before .before .before .before .before .before .before .before .before .before .refer .ensures)) (c .number-answered .ensures) (c .before .before .before .kept-words .ensures) (c .before .answer-words .ensures)
 
 pub rockgingham-refer-spec : {M : Type 1} → statement M
 rockgingham-refer-spec =
@@ -35,10 +56,16 @@ rockgingham-refer-spec =
     (tie.spec
     record-of-requires
     refer-requires
-    kept-words-requires
-    answer-words-requires
-    number-answered-requires
+    enum-known-said
+    number-of-requires
     same-length
     same-length-2
     same-length-3
-    returns)
+    returns
+    kept-words-requires
+    answer-words-requires
+    number-answered-requires
+    same-length-4
+    same-length-5
+    same-length-6
+    returns-2)
