@@ -1,7 +1,7 @@
 -- Text in a buffer: what is put behind what was put, at the front of it, and a number's digits. Assumes nothing.
 use Prim.Native.Nat.{ℕ, zero, suc, _+_, _-_, _/_, _%_, _^_, _≤_, _<_}
 use mathlib.Core.Path.{_≡_, refl, sym, ap, _∙_}
-use mathlib.Core.Bool.{Bool, false, _||_}
+use mathlib.Core.Bool.{Bool, true, false, _||_}
 use mathlib.Core.List.{List, [], _∷_, _++_, append-assoc, append-nil}
 use native.Mathlib.Nat.{not-suc-le-zero, add-zero, pow-suc, pow-le-pow-right}
 use native.Mathlib.Omega.{arith}
@@ -56,6 +56,10 @@ pub adds-front : {before text after : List ℕ} {n : ℕ} {lacking : Bool} → l
 adds-front {before} {text} {after} {n} room a =
     let count : n ≡ length text = omega (arith, a .ends) in
     rw room (λ i. placed (count i) (over-all a i))
+
+-- where room is lacking
+pub front-none : (text before : List ℕ) {lacking : Bool} → lacking ≡ true → placed 0 before ≡ frontOr lacking text before
+front-none text before lack = rw lack
 
 -- neither too short a buffer nor too many counts
 pub room : (buffer counts : List ℕ) → ltb (length buffer) 65536 || ltb 1026 (length counts) ≡ false → (65536 ≤ length buffer) × (length counts ≤ 1026)

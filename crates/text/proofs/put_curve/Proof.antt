@@ -1,17 +1,19 @@
 use mathlib.Core.Path.{_∙_}
 use native.Mathlib.Omega.{arith}
-use Rattle.text.proofs.Laws.{adds-then, adds-front, room}
+use Rattle.rules.specs.Refusals.{bucketsOf}
+use Rattle.text.specs.Text.{curveText}
+use Rattle.text.proofs.Laws.{adds-then, adds-front, front-none, room}
 use Rattle.text.proofs.put_curve.Statement.{statement}
 use Rattle.text.proofs.put_curve.Tie as tie
 
 returns : tie.Need-returns
-returns c = rw (c .if1 .taken)
+returns c = front-none (curveText (c .before .before .before .before .args .k) (bucketsOf (c .before .before .before .before .args .counts .now) (c .before .before .before .before .args .thresholds .now))) (c .before .before .before .before .args .out .now) (c .if1 .taken)
 
 put-first-line-requires : tie.Need-put-first-line-requires
 put-first-line-requires c κs = omega (arith, room (c .before .before .before .before .before .args .out .now) (c .before .before .before .before .before .args .counts .now) (c .before .if1 .left))
 
 put-body-requires : tie.Need-put-body-requires
-put-body-requires c κs = (c .before .before .before .put-first-line .ensures .1, room (c .before .before .before .before .before .before .before .before .before .args .out .now) (c .before .before .before .before .before .before .before .before .before .args .counts .now) (c .before .before .before .before .before .if1 .left) .1, omega (arith, room (c .before .before .before .before .before .before .before .before .before .args .out .now) (c .before .before .before .before .before .before .before .before .before .args .counts .now) (c .before .before .before .before .before .if1 .left)))
+put-body-requires c κs = (omega (arith, c .before .before .before .put-first-line .ensures .1), room (c .before .before .before .before .before .before .before .before .before .args .out .now) (c .before .before .before .before .before .before .before .before .before .args .counts .now) (c .before .before .before .before .before .if1 .left) .1, omega (arith, room (c .before .before .before .before .before .before .before .before .before .args .out .now) (c .before .before .before .before .before .before .before .before .before .args .counts .now) (c .before .before .before .before .before .if1 .left)))
 
 same-length : tie.Need-same-length
 same-length c = c .before .before .put-body .kept .0 ∙ c .before .before .before .before .before .before .put-first-line .kept .0

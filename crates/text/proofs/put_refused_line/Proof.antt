@@ -1,12 +1,13 @@
 use mathlib.Core.Path.{refl}
 use borrow.Author.Tests.{lt-ltb, le-ltb}
-use Rattle.text.proofs.Laws.{adds-front}
+use Rattle.text.specs.Text.{refusedLine}
+use Rattle.text.proofs.Laws.{adds-front, front-none}
 use borrow.Author.Needs.{needs}
 use Rattle.text.proofs.put_refused_line.Statement.{statement}
 use Rattle.text.proofs.put_refused_line.Tie as tie
 
 returns : tie.Need-returns
-returns c = rw (lt-ltb _ 53 (c .if1 .taken))
+returns c = front-none (refusedLine (c .before .before .args .number) (c .before .before .args .place)) (c .before .before .args .out .now) (lt-ltb _ 53 (c .if1 .taken))
 
 slice-aggregate-put-last-two : tie.Need-slice-aggregate-put-last-two
 slice-aggregate-put-last-two c = refl
