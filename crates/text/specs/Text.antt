@@ -79,7 +79,7 @@ abbrev pub pointLine : Point → List ℕ
 pointLine p = decimal (p .size) ++ ((space ++ decimal (p .misses)) ++ ((space ++ decimal (p .total)) ++ newline))
 
 -- a refused event, with its number and the place of its first byte
-abbrev pub refusedLine : (number place : ℕ) → List ℕ
+unfoldable pub refusedLine : (number place : ℕ) → List ℕ
 refusedLine number place = (refusedWord ++ decimal number) ++ ((atWord ++ decimal place) ++ newline)
 
 -- ---- the curve
@@ -106,7 +106,7 @@ abbrev pub pointsOr : Said Point → Record → Histogram → List ℕ
 pointsOr (refused n) k g = emptyLine
 pointsOr (gives p) k g = linesTo (k .settings .buckets + 1) k g ++ endLine
 
-abbrev pub curveText : Record → Histogram → List ℕ
+unfoldable pub curveText : Record → Histogram → List ℕ
 curveText k g = firstLine k ++ pointsOr (pointAt k 0 g) k g
 
 -- ---- text in a buffer

@@ -19,6 +19,7 @@ same-length : tie.Need-same-length
 same-length c = c .before .before .put-body .kept .0 ∙ c .before .before .before .before .before .before .put-first-line .kept .0
 
 returns-2 : tie.Need-returns-2
+unfolding curveText
 returns-2 c = adds-front (c .before .before .before .before .before .before .before .before .if1 .left) (adds-then (c .before .before .before .before .before .before .put-first-line .ensures .0) (c .before .before .put-body .ensures))
 
 pub put-curve-spec : {M : Type 1} → statement M

@@ -22,6 +22,7 @@ same-length : tie.Need-same-length
 same-length c = c .before .before .put-last-two .kept .0
 
 returns-2 : tie.Need-returns-2
+unfolding refusedLine
 returns-2 c = adds-front (le-ltb _ 53 (c .before .before .before .before .before .before .if1 .left)) (c .before .before .put-last-two .ensures .0)
 
 pub put-refused-line-spec : {M : Type 1} → statement M
