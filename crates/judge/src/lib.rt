@@ -53,7 +53,7 @@ pub fn torn(k: Record) -> bool
         | (0xffff_ffff < k.numbers.references)
 }
 
-// Whether a bucket table of so many entries is too short for so many buckets.
+// Whether a bucket table of so many entries is too short for so many buckets. No table is as long as the sum that would wrap.
 fn shorter(entries: u64, buckets: u64) -> bool
     ensures { λ r. ⌜ r ≡ ltb entries (needed buckets) ⌝ }
 {
