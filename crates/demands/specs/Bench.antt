@@ -12,8 +12,7 @@ use Rattle.rules.specs.Reference.{Reply, skipped, scaledDistance, countAt, thre
 use Rattle.rules.specs.Curve.{hitsAt}
 use Rattle.rules.specs.Answers.{Said, refused, gives}
 use Rattle.rules.specs.Events.{readOf}
-use Rattle.rules.specs.Refusals.{Held, Outcome, liveOf, startedOver, freshRecord, setupOf, referOf, referAll, pointOf}
-use Rattle.demands.specs.Runs.{ownShape}
+use Rattle.rules.specs.Refusals.{Held, Outcome, liveOf, startedOver, freshRecord, setupOf, referOf, referAll, ownPoint}
 
 abbrev pub kind0 : (limit start width buckets : ℕ) → Settings
 kind0 limit start width buckets = record { limit = limit; start = start; width = width; buckets = buckets; hashing = record { kind = 0 } }
@@ -35,7 +34,7 @@ accepted s locations = (begun s .said ≡ gives tt) × (referAll locations (begu
 
 -- a point, under the record's own shape
 abbrev pub pointAt : Held → ℕ → Said Point
-pointAt s k = pointOf (s .kept) (ownShape s) k (s .tables .histogram)
+pointAt s k = ownPoint (s .kept) k (s .tables .histogram)
 
 -- size, misses and total of a point, as the program prints them
 abbrev pub printed : Held → ℕ → List ℕ

@@ -4,7 +4,6 @@ use mathlib.Core.Path.{_≡_}
 use mathlib.Core.List.{List, [], _∷_}
 use Rattle.rules.specs.declared.Settings.{Settings}
 use Rattle.rules.specs.declared.Record.{Record}
-use Rattle.rules.specs.declared.Shape.{Shape}
 use Rattle.rules.specs.Settings.{Tables}
 use Rattle.rules.specs.Reference.{Reply, skipped, first, again}
 use Rattle.rules.specs.Answers.{gives}
@@ -29,7 +28,3 @@ sampledIn [] = 0
 sampledIn (skipped ∷ rs) = sampledIn rs
 sampledIn (first ∷ rs) = suc (sampledIn rs)
 sampledIn (again d ∷ rs) = suc (sampledIn rs)
-
--- the shape that the record itself has
-abbrev pub ownShape : Held → Shape
-ownShape s = record { buckets = s .kept .settings .buckets; width = s .kept .settings .width }

@@ -13,10 +13,10 @@ use Rattle.rules.specs.Reference.{Reply, skipped, first, again, countAt, thresh
 use Rattle.rules.specs.Curve.{rawTo, totalOf, curvePoint}
 use Rattle.rules.specs.Answers.{refused, gives}
 use Rattle.rules.specs.Events.{eventBytes, eventLength, Fits, readOf, writeOf}
-use Rattle.rules.specs.Refusals.{Held, liveOf, hashFor, profileOf, setupOf, restartOf, referOf, pointOf}
+use Rattle.rules.specs.Refusals.{Held, liveOf, hashFor, profileOf, setupOf, restartOf, referOf, ownPoint}
 use Rattle.rules.specs.History.{recency, distance, Largest}
 use Rattle.rules.specs.Cache.{hits}
-use Rattle.demands.specs.Runs.{Run, answers, sampledIn, ownShape}
+use Rattle.demands.specs.Runs.{Run, answers, sampledIn}
 
 -- the hash of a location is below the threshold in force
 abbrev pub inForce : Held → ℕ → Bool
@@ -66,13 +66,13 @@ Numbers = (past : List ℕ) (s : Held) (run : Run past s) → Numbered past s (a
 -- "In a run from a fresh start at full rate, record and tables untouched, with the sample limit never exceeded, each point's hits, in the
 -- rules' count units, are exactly those of a least-recently-used cache of that size fed the same trace."
 pub record Exactly (past : List ℕ) (s : Held) (k : ℕ) : Type 0 where
-  pub some-made : 0 < length past → pointOf (s .kept) (ownShape s) k (s .tables .histogram) ≡ gives (record {
+  pub some-made : 0 < length past → ownPoint (s .kept) k (s .tables .histogram) ≡ gives (record {
     size = k * s .kept .settings .width;
     hits = 256 * hits (k * s .kept .settings .width) past;
     misses = 256 * length past - 256 * hits (k * s .kept .settings .width) past;
     total = 256 * length past;
   })
-  pub none-made : past ≡ [] → pointOf (s .kept) (ownShape s) k (s .tables .histogram) ≡ refused 9
+  pub none-made : past ≡ [] → ownPoint (s .kept) k (s .tables .histogram) ≡ refused 9
 
 abbrev pub FullRate : Type 0
 FullRate = (past : List ℕ) (s : Held) → Run past s → s .kept .settings .start ≡ P → length (recency past) ≤ s .kept .settings .limit
@@ -96,7 +96,7 @@ OnlyFull = (past : List ℕ) (s : Held) (x : ℕ) → Run past s
 -- a point under the record's own shape is refused only 6 or 9, exactly on their conditions
 abbrev pub OnlyPointOrEmpty : Type 0
 OnlyPointOrEmpty = (past : List ℕ) (s : Held) (k : ℕ) → Run past s
-    → pointOf (s .kept) (ownShape s) k (s .tables .histogram)
+    → ownPoint (s .kept) k (s .tables .histogram)
     ≡ cond (ltb (s .kept .settings .buckets) k) (refused 6)
     (cond (eqb (totalOf (s .kept .threshold) (s .kept .settings .buckets) (s .tables .histogram)) 0) (refused 9)
     (gives (curvePoint (profileOf (s .kept .settings)) (s .kept .threshold) k (s .tables .histogram))))

@@ -162,6 +162,10 @@ referOf x s =
     (cond (tornFor x s) (refusing 3 s)
     (record { said = gives (stepOf x s .reply); left = laid (stepOf x s) s }))))
 
+-- the shape that the record itself has
+abbrev pub ownShape : Record → Shape
+ownShape k = record { buckets = k .settings .buckets; width = k .settings .width }
+
 -- 5 Stale: the believed B or W differs from the tracker's
 abbrev pub stale : Shape → Settings → Bool
 stale b s = not (eqb (b .buckets) (s .buckets)) || not (eqb (b .width) (s .width))
@@ -176,6 +180,10 @@ pointOf k believed point g =
     (cond (tornReport (k .numbers .references) (k .threshold) (k .settings .buckets) g) (refused 3)
     (cond (eqb (totalOf (k .threshold) (k .settings .buckets) g) 0) (refused 9)
     (gives (curvePoint (profileOf (k .settings)) (k .threshold) point g)))))))
+
+-- a point under the record's own shape
+abbrev pub ownPoint : Record → (point : ℕ) → Histogram → Said Point
+ownPoint k point g = pointOf k (ownShape k) point g
 
 -- what is said, with its value changed
 abbrev pub onGives : {A B : Type 0} → (A → B) → Said A → Said B

@@ -6,12 +6,11 @@ use mathlib.Core.List.{List, [], _∷_, _++_}
 use lib.Dec.{ltb}
 use lib.ListN.{length, take, drop}
 use Rattle.rules.specs.declared.Record.{Record}
-use Rattle.rules.specs.declared.Shape.{Shape}
 use Rattle.rules.specs.declared.Point.{Point}
 use Rattle.rules.specs.Lists.{over}
 use Rattle.rules.specs.Settings.{Histogram}
 use Rattle.rules.specs.Answers.{Said, refused, gives}
-use Rattle.rules.specs.Refusals.{pointOf}
+use Rattle.rules.specs.Refusals.{ownPoint}
 
 -- ---- numbers
 
@@ -84,13 +83,6 @@ refusedLine number place = (refusedWord ++ decimal number) ++ ((atWord ++ decima
 
 -- ---- the curve
 
--- the shape that the record itself has
-abbrev pub shapeOf : Record → Shape
-shapeOf k = record { buckets = k .settings .buckets; width = k .settings .width }
-
-abbrev pub pointAt : Record → (point : ℕ) → Histogram → Said Point
-pointAt k point g = pointOf k (shapeOf k) point g
-
 -- the line of a point, where it is answered
 abbrev pub lineOf : Said Point → List ℕ
 lineOf (refused n) = []
@@ -99,7 +91,7 @@ lineOf (gives p) = pointLine p
 -- the lines of the points below n
 unfoldable pub linesTo : ℕ → Record → Histogram → List ℕ
 linesTo zero k g = []
-linesTo (suc n) k g = linesTo n k g ++ lineOf (pointAt k n g)
+linesTo (suc n) k g = linesTo n k g ++ lineOf (ownPoint k n g)
 
 -- a line per point and `end`; if the curve is empty, `empty` stands in their place
 abbrev pub pointsOr : Said Point → Record → Histogram → List ℕ
@@ -107,7 +99,7 @@ pointsOr (refused n) k g = emptyLine
 pointsOr (gives p) k g = linesTo (k .settings .buckets + 1) k g ++ endLine
 
 unfoldable pub curveText : Record → Histogram → List ℕ
-curveText k g = firstLine k ++ pointsOr (pointAt k 0 g) k g
+curveText k g = firstLine k ++ pointsOr (ownPoint k 0 g) k g
 
 -- ---- text in a buffer
 

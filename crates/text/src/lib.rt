@@ -7,9 +7,9 @@ ghost use mathlib.Core.Path.{_≡_};
 ghost use mathlib.Core.List.{_++_};
 ghost use Prim.Native.Nat.{_+_, _≤_};
 ghost use lib.ListN.{length};
-ghost use Rattle.rules.specs.Refusals.{bucketsOf};
+ghost use Rattle.rules.specs.Refusals.{bucketsOf, ownPoint};
 ghost use Rattle.rules.specs.Answers.{saidPointed};
-ghost use Rattle.text.specs.Text.{decimal, newline, firstLine, pointLine, pointAt, lineOf, linesTo, pointsOr, Adds, placed, curveIn, refusedIn};
+ghost use Rattle.text.specs.Text.{decimal, newline, firstLine, pointLine, lineOf, linesTo, pointsOr, Adds, placed, curveIn, refusedIn};
 
 // ---- text in a buffer, behind the first bytes of it
 
@@ -80,7 +80,7 @@ fn put_point_line(out: &mut [u8], at: usize, p: Point) -> usize
 
 // A point, for the shape that the record itself has.
 fn point_at(k: Record, number: u64, counts: &[u64], thresholds: &[u32]) -> Pointed
-    ensures { λ r. ⌜ saidPointed r ≡ pointAt k number (bucketsOf (now (counts .entry)) (now (thresholds .entry))) ⌝ }
+    ensures { λ r. ⌜ saidPointed r ≡ ownPoint k number (bucketsOf (now (counts .entry)) (now (thresholds .entry))) ⌝ }
 {
     let shape = Shape {
         buckets: k.settings.buckets,
@@ -99,7 +99,7 @@ fn put_point(
     thresholds: &[u32],
 ) -> usize
     requires { ⌜ at + 63 ≤ length (now out) ⌝ }
-    ensures { λ r. ⌜ Adds (now (out .entry)) at (lineOf (pointAt k number (bucketsOf (now (counts .entry)) (now (thresholds .entry))))) (now (out .exit)) r ⌝ }
+    ensures { λ r. ⌜ Adds (now (out .entry)) at (lineOf (ownPoint k number (bucketsOf (now (counts .entry)) (now (thresholds .entry))))) (now (out .exit)) r ⌝ }
     ensures { λ r. ⌜ r ≤ at + 63 ⌝ }
 {
     match point_at(k, number, counts, thresholds) {
@@ -127,7 +127,7 @@ fn put_points(out: &mut [u8], at: usize, k: Record, counts: &[u64], thresholds: 
 // The points and `end`, or `empty`.
 fn put_body(out: &mut [u8], at: usize, k: Record, counts: &[u64], thresholds: &[u32]) -> usize
     requires { ⌜ (at ≤ 118) × (length (now counts) ≤ 1026) × (65536 ≤ length (now out)) ⌝ }
-    ensures { λ r. ⌜ Adds (now (out .entry)) at (pointsOr (pointAt k 0 (bucketsOf (now (counts .entry)) (now (thresholds .entry)))) k (bucketsOf (now (counts .entry)) (now (thresholds .entry)))) (now (out .exit)) r ⌝ }
+    ensures { λ r. ⌜ Adds (now (out .entry)) at (pointsOr (ownPoint k 0 (bucketsOf (now (counts .entry)) (now (thresholds .entry)))) k (bucketsOf (now (counts .entry)) (now (thresholds .entry)))) (now (out .exit)) r ⌝ }
 {
     match point_at(k, 0, counts, thresholds) {
         Pointed::At(_) => {
