@@ -1,7 +1,6 @@
 -- What an event asks of a tracker, and what it answers from the answer of that call. Assumes nothing.
-use Prim.Native.Nat.{_/_}
-use mathlib.Core.Bool.{cond}
-use lib.Dec.{eqb}
+use Prim.Native.Nat.{ℕ}
+use mathlib.Core.List.{List, [], _∷_}
 use Rattle.rules.specs.declared.Record.{Record}
 use Rattle.rules.specs.declared.Event.{Event}
 use Rattle.rules.specs.declared.Event.the-variants as event
@@ -13,14 +12,19 @@ use Rattle.rules.specs.declared.Taken.the-variants as taken
 use Rattle.rules.specs.declared.Referred.{Referred}
 use Rattle.rules.specs.declared.Answer.{Answer}
 use Rattle.rules.specs.declared.Answer.the-variants as answer
-use Rattle.rules.specs.Events.{settingsOf}
+use Rattle.rules.specs.Events.{settingsOf, referencesOf}
 use Rattle.apply.specs.declared.Asked.{Asked}
 use Rattle.apply.specs.declared.Asked.the-variants as asked
 
+-- the first of an event's references, of which there is one at the most
+abbrev pub referring : List ℕ → Asked
+referring [] = asked.Nothing
+referring (x ∷ rest) = asked.Reference x
+
 -- the event as one call
 abbrev pub askedBy : Event → Asked
-askedBy (event.Location location) = asked.Reference location
-askedBy (event.Span offset length) = cond (eqb length 0) asked.Nothing (asked.Reference (offset / 4096))
+askedBy (event.Location location) = referring (referencesOf (event.Location location))
+askedBy (event.Span offset length) = referring (referencesOf (event.Span offset length))
 askedBy event.Restart = asked.Restart
 askedBy (event.Setup body) = asked.Setup (settingsOf body)
 
