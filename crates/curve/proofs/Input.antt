@@ -8,14 +8,13 @@ use lib.Dec.{ltb}
 use lib.ListN.{length, take, drop, length-append, length-drop}
 use lib.Seq.{drop-append-le, drop-drop, take-add}
 use borrow.Author.Tests.{lt-ltb, le-ltb}
-use Rattle.rules.specs.declared.Refusal.{Refusal}
-use Rattle.rules.specs.declared.Refusal.the-variants as refusal
-use Rattle.rules.specs.Answers.{Said, refused, gives, number}
+use Rattle.rules.specs.Answers.{Said, refused, gives, numberOf}
 use Rattle.rules.specs.declared.Record.{Record}
 use Rattle.rules.specs.Lists.{over}
 use Rattle.rules.specs.Settings.{Histogram, Tables}
 use Rattle.rules.specs.Refusals.{Held, Beginning, setupOf}
 use Rattle.rules.proofs.Tests.{or-neither}
+use Rattle.rules.proofs.Answers.{number-some, number-refused}
 use Rattle.rules.proofs.Tables.{over-front}
 use Rattle.feed.specs.declared.Ending.{Ending}
 use Rattle.feed.specs.declared.Ending.the-variants as ending
@@ -24,34 +23,21 @@ use Rattle.feed.proofs.Laws.{feed-none}
 use Rattle.feed.proofs.Pieces.{Untaken, untaken, taken-within, pieces}
 use Rattle.text.specs.Text.{refusedLine, curveText, placed, frontOr, curveIn, refusedIn}
 use Rattle.curve.specs.declared.Done.{Done}
-use Rattle.curve.specs.Program.{firstSettings, refusalIn, endText, textFrom, textAfter, textOver, Stands, Prints, Telling, Reached, Follows}
+use Rattle.curve.specs.Program.{firstSettings, endText, textFrom, textAfter, textOver, Stands, Prints, Telling, Reached, Follows}
 
 -- ---- what feeding ended with
-
-some-number : (r : Refusal) → number r ≡ 0 → ⊥
-some-number refusal.Settings e = omega arith
-some-number refusal.Tables e = omega arith
-some-number refusal.Torn e = omega arith
-some-number refusal.Full e = omega arith
-some-number refusal.Stale e = omega arith
-some-number refusal.Point e = omega arith
-some-number refusal.Short e = omega arith
-some-number refusal.Kind e = omega arith
-some-number refusal.Empty e = omega arith
 
 pub record Ends (why : Said End) : Type 0 where
   pub end : End
   pub is : why ≡ gives end
 
-pub no-refusal : (e : Ending) {n : ℕ} → n ≡ refusalIn (saidEnding e) → (0 < n → ⊥) → Ends (saidEnding e)
+pub no-refusal : (e : Ending) {n : ℕ} → n ≡ numberOf (saidEnding e) → (0 < n → ⊥) → Ends (saidEnding e)
 no-refusal ending.Whole q h = record { end = whole; is = refl }
 no-refusal ending.Inside q h = record { end = inside; is = refl }
-no-refusal (ending.Refused r) {n} q h = absurd (some-number r (omega arith))
+no-refusal (ending.Refused r) {n} q h = absurd (number-some r (omega arith))
 
-pub a-refusal : (e : Ending) {n : ℕ} → n ≡ refusalIn (saidEnding e) → 0 < n → saidEnding e ≡ refused n
-a-refusal ending.Whole q h = absurd (omega arith)
-a-refusal ending.Inside q h = absurd (omega arith)
-a-refusal (ending.Refused r) q h = ap refused (sym q)
+pub a-refusal : (e : Ending) {n : ℕ} → n ≡ numberOf (saidEnding e) → 0 < n → saidEnding e ≡ refused n
+a-refusal e q h = number-refused (saidEnding e) (rw q at h) ∙ ap refused (sym q)
 
 -- ---- text at the front of the buffer
 

@@ -58,11 +58,6 @@ Fitting came.End room = Unit {0}
 Fitting came.Again room = Unit {0}
 Fitting came.Failed room = Unit {0}
 
--- the number of a refusal, and 0 for none
-abbrev pub refusalIn : Said End → ℕ
-refusalIn (refused n) = n
-refusalIn (gives e) = 0
-
 -- a text stands at the front of a buffer
 pub record Stands (text buffer : List ℕ) (n : ℕ) : Type 0 where
   pub is : take n buffer ≡ text

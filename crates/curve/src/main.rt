@@ -14,10 +14,11 @@ ghost use mathlib.Core.Bool.{cond};
 ghost use Prim.Native.Nat.{_+_, _-_, _≤_, _<_};
 ghost use lib.Dec.{ltb};
 ghost use lib.ListN.{length, take, drop};
+ghost use Rattle.rules.specs.Answers.{numberOf};
 ghost use Rattle.rules.specs.Refusals.{bucketsOf, tablesOf, held};
 ghost use Rattle.text.specs.Text.{refusedLine, curveText};
 ghost use Rattle.feed.specs.Feed.{saidEnding};
-ghost use Rattle.curve.specs.Program.{Fitting, refusalIn, firstSettings, textFrom, textOver, programOf, Stands, Telling, Ready, AfterFed, AfterBytes, AfterRead};
+ghost use Rattle.curve.specs.Program.{Fitting, firstSettings, textFrom, textOver, programOf, Stands, Telling, Ready, AfterFed, AfterBytes, AfterRead};
 
 // ---- the input, read in pieces
 
@@ -105,7 +106,7 @@ fn put_end(
 
 // The number of the refusal that feeding ended with, or 0.
 fn refusal_in(ending: Ending) -> u64
-    ensures { λ r. ⌜ r ≡ refusalIn (saidEnding ending) ⌝ }
+    ensures { λ r. ⌜ r ≡ numberOf (saidEnding ending) ⌝ }
 {
     match ending {
         Ending::Refused(why) => judge::number_of(why),

@@ -5,10 +5,10 @@ use mathlib.Core.List.{List}
 use Rattle.rules.specs.declared.Record.{Record}
 use Rattle.rules.specs.Settings.{Tables}
 use Rattle.rules.specs.Reference.{Reply}
-use Rattle.rules.specs.Answers.{Said, refused, gives}
+use Rattle.rules.specs.Answers.{Said, refused, gives, numberOf}
 use Rattle.rules.specs.Events.{Filling}
 use Rattle.rules.specs.Refusals.{Beginning, Outcome}
-use Rattle.words.specs.Words.{wordsOf, replyWords, numberOf, put}
+use Rattle.words.specs.Words.{wordsOf, replyWords, put}
 use Rattle.driver.specs.Calls.{started, begun, referred, stepped, given, into, written}
 
 -- words lent for what a call gives

@@ -1,8 +1,9 @@
--- The reading of each answer is injective: what a promise says of an answer's number and values decides the answer. Assumes nothing.
-use Prim.Native.Nat.{ℕ}
+-- The numbers of what is said. The reading of each answer is injective: what a promise says of an answer's number and values decides the answer. Assumes nothing.
+use Prim.Native.Nat.{ℕ, _<_}
 use mathlib.Core.Path.{_≡_, refl, sym, ap, _∙_}
 use mathlib.Core.Bool.{cond}
 use mathlib.Core.Option.{Option, some, none}
+use native.Mathlib.Omega.{arith}
 use lib.Dec.{eqb}
 use Rattle.rules.specs.declared.Point.{Point}
 use Rattle.rules.specs.declared.Sums.{Sums}
@@ -27,7 +28,7 @@ use Rattle.rules.specs.declared.Found.the-variants as found
 use Rattle.rules.specs.declared.Reported.{Reported}
 use Rattle.rules.specs.declared.Reported.the-variants as reported
 use Rattle.rules.specs.Reference.{Reply, skipped, first, again}
-use Rattle.rules.specs.Answers.{Said, refused, gives, number, Got, saidStarted, saidAnswer, saidPointed, saidPlotted, saidTaken, saidReading, saidWritten, saidReported, placeFound}
+use Rattle.rules.specs.Answers.{Said, refused, gives, number, numberOf, Got, saidStarted, saidAnswer, saidPointed, saidPlotted, saidTaken, saidReading, saidWritten, saidReported, placeFound}
 
 -- what undoes a reading makes it injective
 undone : {A B : Type 0} (f : A → B) (g : B → A) → ((a : A) → g (f a) ≡ a) → (a b : A) → f a ≡ f b → a ≡ b
@@ -59,6 +60,22 @@ named-number refusal.Empty = refl
 
 pub number-injective : (a b : Refusal) → number a ≡ number b → a ≡ b
 number-injective = undone number named named-number
+
+-- no refusal is numbered 0, so that 0 may stand for accepted
+pub number-some : (r : Refusal) → number r ≡ 0 → ⊥
+number-some refusal.Settings e = omega arith
+number-some refusal.Tables e = omega arith
+number-some refusal.Torn e = omega arith
+number-some refusal.Full e = omega arith
+number-some refusal.Stale e = omega arith
+number-some refusal.Point e = omega arith
+number-some refusal.Short e = omega arith
+number-some refusal.Kind e = omega arith
+number-some refusal.Empty e = omega arith
+
+pub number-refused : {A : Type 0} (s : Said A) → 0 < numberOf s → s ≡ refused (numberOf s)
+number-refused (refused n) h = refl
+number-refused (gives a) h = absurd (omega arith)
 
 -- an answer back from what it says: refusals by their number, the rest by its own constructor
 back : {A B : Type 0} → (Refusal → B) → (A → B) → Said A → B

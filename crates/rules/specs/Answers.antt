@@ -44,6 +44,11 @@ number refusal.Short = 7
 number refusal.Kind = 8
 number refusal.Empty = 9
 
+-- 0 where a call is accepted, or the refusal's number
+abbrev pub numberOf : {A : Type 0} → Said A → ℕ
+numberOf (refused n) = n
+numberOf (gives a) = 0
+
 -- an event with the number of bytes it took
 pub record Got : Type 0 where
   pub event : Event

@@ -8,8 +8,8 @@ use Rattle.rules.specs.declared.Point.{Point}
 use Rattle.rules.specs.declared.PlotPoint.{PlotPoint}
 use Rattle.rules.specs.declared.Event.{Event}
 use Rattle.rules.specs.Reference.{Reply}
-use Rattle.rules.specs.Answers.{Said}
-use Rattle.words.specs.Words.{recordOf, wordsOf, replyWords, pointWords, plotWords, kindAndBody, numberOf, put}
+use Rattle.rules.specs.Answers.{Said, numberOf}
+use Rattle.words.specs.Words.{recordOf, wordsOf, replyWords, pointWords, plotWords, kindAndBody, put}
 
 abbrev Once : {A : Type 0} → A → Type 0
 Once {A} x = (r s : A) → r ≡ x → s ≡ x → r ≡ s

@@ -54,11 +54,6 @@ eventWords g = kindAndBody (g .event) (g .taken)
 
 -- ---- what a call answers
 
--- 0 when accepted, or the refusal's number
-abbrev pub numberOf : {A : Type 0} → Said A → ℕ
-numberOf (refused n) = n
-numberOf (gives a) = 0
-
 -- the words of what is given; a refusal leaves those that stood there
 abbrev pub put : {A C : Type 0} → (A → C) → Said A → C → C
 put words (refused n) old = old

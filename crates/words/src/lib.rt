@@ -10,8 +10,8 @@ use rules::Settings;
 use rules::Started;
 use rules::Written;
 ghost use mathlib.Core.Path.{_≡_};
-ghost use Rattle.rules.specs.Answers.{saidStarted, saidAnswer, saidPointed, saidPlotted, saidWritten};
-ghost use Rattle.words.specs.Words.{recordOf, wordsOf, replyWords, pointWords, plotWords, kindAndBody, numberOf, put};
+ghost use Rattle.rules.specs.Answers.{numberOf, saidStarted, saidAnswer, saidPointed, saidPlotted, saidWritten};
+ghost use Rattle.words.specs.Words.{recordOf, wordsOf, replyWords, pointWords, plotWords, kindAndBody, put};
 
 // ---- the record
 
