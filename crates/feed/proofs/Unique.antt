@@ -3,6 +3,7 @@ use Prim.Native.Nat.{ℕ}
 use mathlib.Core.Path.{_≡_, refl, sym, ap, _∙_}
 use mathlib.Core.List.{List}
 use Rattle.rules.specs.Refusals.{Held}
+use Rattle.rules.proofs.Tables.{each-same}
 use Rattle.rules.proofs.Answers.{number-injective}
 use Rattle.feed.specs.declared.Ending.{Ending}
 use Rattle.feed.specs.declared.Ending.the-variants as ending
@@ -25,9 +26,6 @@ pub feed-once : (bytes : List ℕ) (s : Held) (a b : Fed) (locationsA countsA th
     → (a ≡ b) × (locationsA ≡ locationsB) × (countsA ≡ countsB) × (thresholdsA ≡ thresholdsB)
 feed-once bytes s a b locationsA countsA thresholdsA locationsB countsB thresholdsB p q =
     let k = p ∙ sym q in
-    let same : a .ending ≡ b .ending = ending-injective (a .ending) (b .ending) (ap (λ z. z .said) k) in (
-      (λ i. record { kept = k i .left .kept; taken = k i .taken; ending = same i }),
-      ap (λ z. z .left .tables .locations) k,
-      ap (λ z. z .left .tables .histogram .counts) k,
-      ap (λ z. z .left .tables .histogram .thresholds) k,
-    )
+    let same : a .ending ≡ b .ending = ending-injective (a .ending) (b .ending) (ap (λ z. z .said) k) in
+    let e = each-same (ap (λ z. z .left .tables) k) in
+    ((λ i. record { kept = k i .left .kept; taken = k i .taken; ending = same i }), e .0, e .1, e .2)

@@ -1,4 +1,4 @@
--- A list written over the front of a table. Assumes nothing.
+-- A list written over the front of a table, and the lent tables one by one. Assumes nothing.
 use Prim.Native.Nat.{ℕ, zero, suc, _+_, _≤_, _<_, min}
 use mathlib.Core.Path.{_≡_, refl, sym, ap, _∙_}
 use mathlib.Core.Logic.{⊎-elim}
@@ -8,6 +8,7 @@ use native.Mathlib.Omega.{arith}
 use lib.ListN.{length, getD, take, drop, set, replicate, length-append, length-drop, length-set, length-replicate, replicate-append-replicate, take-append-drop}
 use lib.Seq.{take-all, length-take-le, take-at}
 use Rattle.rules.specs.Lists.{over}
+use Rattle.rules.specs.Settings.{Tables}
 
 pub over-at : (new old : List ℕ) (i : ℕ) → length new ≤ i → i < length old → getD (over new old) i 0 ≡ getD old i 0
 over-at [] old i h k = refl
@@ -60,3 +61,7 @@ fill-more v xs now i h f = record {
       ∙ ap (λ (l : List ℕ). over l xs) (replicate-append-replicate i 1 v));
   same = length-set now i v ∙ f .same;
 }
+
+-- the same tables are the same one by one
+pub each-same : {t u : Tables} → t ≡ u → (t .locations ≡ u .locations) × (t .histogram .counts ≡ u .histogram .counts) × (t .histogram .thresholds ≡ u .histogram .thresholds)
+each-same e = (ap (λ z. z .locations) e, ap (λ z. z .histogram .counts) e, ap (λ z. z .histogram .thresholds) e)

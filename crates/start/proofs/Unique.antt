@@ -4,10 +4,12 @@ use mathlib.Core.Path.{_≡_, sym, ap, _∙_}
 use mathlib.Core.List.{List}
 use Rattle.rules.specs.declared.Started.{Started}
 use Rattle.rules.specs.Refusals.{Beginning, afterStarted}
+use Rattle.rules.proofs.Tables.{each-same}
 use Rattle.rules.proofs.Answers.{started-injective}
 
 -- setup and restart, by what their definition gives for what they were handed
 pub started-once : (ls cs ts ls' cs' ts' : List ℕ) (b : Beginning) (r r' : Started) → afterStarted r ls cs ts ≡ b → afterStarted r' ls' cs' ts' ≡ b → (r ≡ r') × (cs ≡ cs') × (ts ≡ ts')
 started-once ls cs ts ls' cs' ts' b r r' p q =
     let k = p ∙ sym q in
-    (started-injective r r' (ap (λ z. z .said) k), ap (λ z. z .tables .histogram .counts) k, ap (λ z. z .tables .histogram .thresholds) k)
+    let e = each-same (ap (λ z. z .tables) k) in
+    (started-injective r r' (ap (λ z. z .said) k), e .1, e .2)

@@ -5,10 +5,12 @@ use mathlib.Core.List.{List}
 use Rattle.rules.specs.declared.Referred.{Referred}
 use Rattle.rules.specs.Reference.{Reply}
 use Rattle.rules.specs.Refusals.{Outcome, afterReferred}
+use Rattle.rules.proofs.Tables.{each-same}
 use Rattle.rules.proofs.Answers.{answer-injective}
 
 pub refer-once : (ls cs ts ls' cs' ts' : List ℕ) (o : Outcome Reply) (r r' : Referred) → afterReferred r ls cs ts ≡ o → afterReferred r' ls' cs' ts' ≡ o → (r ≡ r') × (ls ≡ ls') × (cs ≡ cs') × (ts ≡ ts')
 refer-once ls cs ts ls' cs' ts' o r r' p q =
     let k = p ∙ sym q in
     let a = answer-injective (r .answer) (r' .answer) (ap (λ z. z .said) k) in
-    ((λ i. record { kept = k i .left .kept; answer = a i }), ap (λ z. z .left .tables .locations) k, ap (λ z. z .left .tables .histogram .counts) k, ap (λ z. z .left .tables .histogram .thresholds) k)
+    let e = each-same (ap (λ z. z .left .tables) k) in
+    ((λ i. record { kept = k i .left .kept; answer = a i }), e .0, e .1, e .2)
