@@ -28,7 +28,8 @@ impl Cache {
         }
         self.by_use.insert(self.clock, block);
         if self.by_use.len() > self.size {
-            let (_, oldest) = self.by_use.pop_first().expect("the cache holds a block");
+            let first = *self.by_use.keys().next().expect("the cache holds a block");
+            let oldest = self.by_use.remove(&first).expect("this block");
             self.last_use.remove(&oldest);
         }
         before.is_some()

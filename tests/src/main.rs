@@ -20,13 +20,30 @@ mod traces;
 use model::{Model, Wrong, ALL_WRONG};
 use tally::Tally;
 
-const DAMAGED_CALLS: u64 = 1_000_000;
-const LONG_INPUT: usize = 20_000_000;
+/// How much is tried. Each test prints its size.
+struct Sizes {
+    damaged_calls: u64,
+    random_inputs: u64,
+    long_input: usize,
+}
 
-fn library(seed: u64) -> Result<(), String> {
+const NATIVE: Sizes = Sizes {
+    damaged_calls: 1_000_000,
+    random_inputs: 1500,
+    long_input: 20_000_000,
+};
+
+/// An emulator takes some twenty times as long.
+const EMULATED: Sizes = Sizes {
+    damaged_calls: 250_000,
+    random_inputs: 500,
+    long_input: 5_000_000,
+};
+
+fn library(sizes: &Sizes, seed: u64) -> Result<(), String> {
     let model = Model::right();
     let mut tally = Tally::default();
-    calls::damaged(&model, seed, DAMAGED_CALLS, &mut tally)?;
+    calls::damaged(&model, seed, sizes.damaged_calls, &mut tally)?;
     println!("damaged records and tables: {} calls agree", tally.calls);
     tally.require(calls::WANTED)?;
     let mut tally = Tally::default();
@@ -41,14 +58,15 @@ fn library(seed: u64) -> Result<(), String> {
     Ok(())
 }
 
-fn program(seed: u64) -> Result<(), String> {
+fn program(sizes: &Sizes, seed: u64) -> Result<(), String> {
     let model = Model::right();
     let mut tally = Tally::default();
-    traces::random_inputs(&model, seed, 1500, &mut tally)?;
+    traces::random_inputs(&model, seed, sizes.random_inputs, &mut tally)?;
     println!("program: {} random inputs agree", tally.calls);
     tally.require(traces::WANTED)?;
-    traces::pipes(&model, seed, LONG_INPUT)?;
-    println!("program: {LONG_INPUT} bytes, small pieces, cut events and empty input agree");
+    let length = sizes.long_input;
+    traces::pipes(&model, seed, length)?;
+    println!("program: {length} bytes, small pieces, cut events and empty input agree");
     let points = traces::full_rate(seed, 150)?;
     println!("program: {points} points of full-rate curves agree with an LRU simulator");
     let hashes = traces::published_hash(seed, 400)?;
@@ -111,8 +129,16 @@ fn wrong_models(seed: u64) -> Result<(), String> {
 }
 
 fn all(seed: u64) -> Result<(), String> {
-    library(seed)?;
-    program(seed)?;
+    let emulator = program::emulator();
+    let sizes = match &emulator {
+        None => NATIVE,
+        Some(emulator) => {
+            println!("under {emulator}, with smaller sizes");
+            EMULATED
+        }
+    };
+    library(&sizes, seed)?;
+    program(&sizes, seed)?;
     wrong_models(seed)
 }
 

@@ -16,8 +16,35 @@ const INTERRUPTED: &str = concat!(
 
 const MORNING: &str = concat!(env!("CARGO_MANIFEST_DIR"), "/../data/morning.trace");
 
+/// The emulator that runs programs for x86-64, where one is needed: tools/x86-64.sh says which.
+pub fn emulator() -> Option<String> {
+    std::env::var("ROCKGINGHAM_EMULATOR")
+        .ok()
+        .filter(|name| !name.is_empty())
+}
+
+/// A command that runs the program, with a library loaded before the system's. What an emulated program starts is not emulated by
+/// itself, and the emulator must not load the library into itself.
+fn curve(preloaded: Option<&str>) -> Command {
+    match emulator() {
+        None => {
+            let mut command = Command::new(CURVE);
+            command.envs(preloaded.map(|library| ("LD_PRELOAD", library)));
+            command
+        }
+        Some(emulator) => {
+            let mut command = Command::new(emulator);
+            if let Some(library) = preloaded {
+                command.args(["-E", &format!("LD_PRELOAD={library}")]);
+            }
+            command.arg(CURVE);
+            command
+        }
+    }
+}
+
 fn start() -> Result<Child, String> {
-    Command::new(CURVE)
+    curve(None)
         .stdin(Stdio::piped())
         .stdout(Stdio::piped())
         .stderr(Stdio::piped())
@@ -77,16 +104,17 @@ pub fn printed_in_pieces(bytes: &[u8], lengths: &[usize]) -> Result<String, Stri
 /// A read that fails (here of a folder) is no end of the input: nothing is printed, and standard error says why.
 pub fn failed_read() -> Result<(), String> {
     let folder = File::open("/").map_err(|error| error.to_string())?;
-    let end = Command::new(CURVE)
+    let end = curve(None)
         .stdin(folder)
         .output()
         .map_err(|error| format!("{CURVE}: {error}"))?;
-    if end.stdout.is_empty() && !end.stderr.is_empty() {
+    let said = String::from_utf8_lossy(&end.stderr).into_owned();
+    if end.stdout.is_empty() && said.starts_with("curve: standard input: ") {
         Ok(())
     } else {
         let printed = String::from_utf8_lossy(&end.stdout).into_owned();
         Err(format!(
-            "after a read that failed the program printed '{printed}'"
+            "after a read that failed the program printed '{printed}' and said '{said}'"
         ))
     }
 }
@@ -96,8 +124,7 @@ pub fn interrupted() -> Result<(), String> {
     let bytes = std::fs::read(MORNING).map_err(|error| format!("{MORNING}: {error}"))?;
     let expected = printed(&bytes)?;
     let trace = File::open(MORNING).map_err(|error| error.to_string())?;
-    let end = Command::new(CURVE)
-        .env("LD_PRELOAD", INTERRUPTED)
+    let end = curve(Some(INTERRUPTED))
         .stdin(trace)
         .output()
         .map_err(|error| format!("{CURVE}: {error}"))?;
@@ -106,7 +133,7 @@ pub fn interrupted() -> Result<(), String> {
         String::from_utf8_lossy(&end.stderr).into_owned(),
     );
     let words: Vec<&str> = said.split_whitespace().collect();
-    let often = |word: &str| word.parse().is_ok_and(|times: u64| times > 1);
+    let often = |word: &str| matches!(word.parse::<u64>(), Ok(times) if times > 1);
     match words[..] {
         ["interrupted", reads, "shortened", writes] if often(reads) && often(writes) => {}
         _ => return Err(format!("nothing was interrupted: '{said}'")),
@@ -127,7 +154,7 @@ pub fn failed_write() -> Result<(), String> {
         .write(true)
         .open("/dev/full")
         .map_err(|error| format!("/dev/full: {error}"))?;
-    let end = Command::new(CURVE)
+    let end = curve(None)
         .stdin(trace)
         .stdout(full)
         .output()
