@@ -1,17 +1,25 @@
 //! The hot paths of the library, one call at a time.
 
-use crate::interface;
-use crate::measure::{compare, Row, Size};
-use crate::plain::{self, Answer, Record, Settings, Tables, FULL_RATE};
-use crate::proved;
-use std::hint::black_box;
+use crate::engines::{Engine, Hash, Plain, Proved, Read};
+use crate::measure::{nanoseconds, Cost, Counter, Row, Size};
+use crate::plain::{Answer, Settings, FULL_RATE};
+use std::process::Command;
 
-fn tables(limit: usize, buckets: usize) -> Tables {
-    Tables {
-        locations: vec![0; limit],
-        counts: vec![0; buckets + 2],
-        thresholds: vec![0; buckets + 2],
-    }
+/// One side of a hot path, set up and ready.
+trait Work {
+    /// So many operations; a sum over what they answer.
+    fn run(&mut self, count: usize) -> u64;
+    /// The record's words and the tables, where there are any.
+    fn state(&self) -> Vec<u64>;
+}
+
+/// A hot path: both sides, how many operations are timed in a round at the full size, and how many are counted.
+pub struct HotPath {
+    name: String,
+    timed: usize,
+    counted: usize,
+    proved: fn() -> Box<dyn Work>,
+    plain: fn() -> Box<dyn Work>,
 }
 
 fn settings(limit: u64, start: u64, buckets: u64, hash_kind: u64) -> Settings {
@@ -24,48 +32,52 @@ fn settings(limit: u64, start: u64, buckets: u64, hash_kind: u64) -> Settings {
     }
 }
 
-/// Both engines, freshly set up alike.
-struct Pair {
-    words: [u64; 9],
-    ours: Tables,
-    record: Record,
-    theirs: Tables,
+fn state_of(engine: &impl Engine) -> Vec<u64> {
+    let tables = engine.tables();
+    let mut state = engine.words().to_vec();
+    state.extend(&tables.locations);
+    state.extend(&tables.counts);
+    state.extend(tables.thresholds.iter().map(|x| u64::from(*x)));
+    state
 }
 
-impl Pair {
-    fn new(s: Settings) -> Pair {
-        let mut ours = tables(s.limit as usize, s.buckets as usize);
-        let mut theirs = tables(s.limit as usize, s.buckets as usize);
-        Pair {
-            words: proved::setup(s, &mut ours).expect("these settings are in range"),
-            ours,
-            record: plain::setup(s, &mut theirs).expect("these settings are in range"),
-            theirs,
-        }
+/// A function that the compiler cannot see through, so that it is called each time.
+fn unseen<F: Copy>(function: F) -> F {
+    // SAFETY: a local value is read.
+    unsafe { std::ptr::read_volatile(&function) }
+}
+
+struct Hashes(Hash);
+
+impl Work for Hashes {
+    fn run(&mut self, count: usize) -> u64 {
+        let hash = unseen(self.0);
+        (0..count as u64).fold(0u64, |sum, x| {
+            // SAFETY: two numbers are handed over.
+            sum.wrapping_add(unsafe { hash(1, x.wrapping_mul(0x9e37_79b9_7f4a_7c15)) })
+        })
     }
 
-    fn refer(&mut self, location: u64) {
-        let a = proved::refer(&mut self.words, location, &mut self.ours);
-        let t = &mut self.theirs;
-        let b = plain::refer(
-            &mut self.record,
-            location,
-            &mut t.locations,
-            &mut t.counts,
-            &mut t.thresholds,
-        );
-        assert_eq!(a, b);
+    fn state(&self) -> Vec<u64> {
+        Vec::new()
     }
+}
 
-    fn agree(&self, name: &str) {
-        assert_eq!(self.words, proved::words(&self.record), "{name}: records");
-        assert!(
-            self.ours.locations == self.theirs.locations
-                && self.ours.counts == self.theirs.counts
-                && self.ours.thresholds == self.theirs.thresholds,
-            "{name}: tables"
-        );
+fn hash() -> HotPath {
+    HotPath {
+        name: "hash kind 1".to_string(),
+        timed: 4_000_000,
+        counted: 10_000,
+        proved: || Box::new(Hashes(Proved::HASH)),
+        plain: || Box::new(Hashes(Plain::HASH)),
     }
+}
+
+/// References; `next` says the location from the table of locations and the turn.
+struct References<E, N> {
+    engine: E,
+    turn: usize,
+    next: N,
 }
 
 /// What an answer adds to a sum that both sides must agree on.
@@ -78,171 +90,135 @@ fn weight(answer: Result<Answer, u64>) -> u64 {
     }
 }
 
-/// The same references to both, timed apart; `next` says the location from a table of locations and the turn.
-fn references(
-    name: &str,
-    size: Size,
-    count: usize,
-    pair: &mut Pair,
-    next: impl Fn(&[u64], usize) -> u64,
-) -> Row {
-    let Pair {
-        words,
-        ours,
-        record,
-        theirs,
-    } = pair;
-    let (mut turn, mut turn_there) = (0, 0);
-    let row = compare(
-        name,
-        size,
-        count,
-        || {
-            let mut sum: u64 = 0;
-            for _ in 0..count {
-                let location = next(&ours.locations, turn);
-                turn += 1;
-                sum = sum.wrapping_add(weight(proved::refer(words, location, ours)));
-            }
-            sum
-        },
-        || {
-            let mut sum: u64 = 0;
-            for _ in 0..count {
-                let location = next(&theirs.locations, turn_there);
-                turn_there += 1;
-                let answer = plain::refer(
-                    record,
-                    location,
-                    &mut theirs.locations,
-                    &mut theirs.counts,
-                    &mut theirs.thresholds,
-                );
-                sum = sum.wrapping_add(weight(answer));
-            }
-            sum
-        },
-    );
-    pair.agree(name);
-    row
-}
-
-fn hash(size: Size) -> Row {
-    let count = 4_000_000 / size.scale;
-    let run = |hash: unsafe extern "C" fn(u64, u64) -> u64| {
-        let hash = black_box(hash);
-        (0..count as u64).fold(0u64, |sum, x| {
-            // SAFETY: two numbers are handed over.
-            sum.wrapping_add(unsafe { hash(1, x.wrapping_mul(0x9e37_79b9_7f4a_7c15)) })
-        })
-    };
-    compare(
-        "hash kind 1",
-        size,
-        count,
-        || run(interface::rockgingham_hash),
-        || run(plain::hash_of),
-    )
-}
-
-fn skipped(size: Size) -> Row {
-    let mut pair = Pair::new(settings(1024, 1, 256, 1));
-    references(
-        "a reference that is Skipped",
-        size,
-        4_000_000 / size.scale,
-        &mut pair,
-        |_, turn| (turn as u64).wrapping_mul(0x9e37_79b9_7f4a_7c15) | 1,
-    )
-}
-
-fn again(size: Size, limit: u64) -> Row {
-    let mut pair = Pair::new(settings(limit, FULL_RATE, 256, 1));
-    for x in 0..limit {
-        pair.refer(x);
-    }
-    let middle = limit as usize / 2;
-    references(
-        &format!("Again at the middle of the list, S {limit}"),
-        size,
-        400_000 / size.scale,
-        &mut pair,
-        |locations, _| locations[middle],
-    )
-}
-
-fn lowering(size: Size) -> Row {
-    let mut pair = Pair::new(settings(8192, FULL_RATE, 256, 0));
-    let top = FULL_RATE - 1;
-    for x in 0..8192 {
-        pair.refer(top - x);
-    }
-    references(
-        "First with a lowering, S 8192",
-        size,
-        4_000 / size.scale,
-        &mut pair,
-        |_, turn| top - 8192 - turn as u64,
-    )
-}
-
-fn point(size: Size, buckets: u64) -> Row {
-    let mut pair = Pair::new(settings(8192, FULL_RATE, buckets, 1));
-    for x in 0..4 * buckets {
-        pair.refer(x * x % (buckets / 2 + 1));
-    }
-    pair.agree("point");
-    let count = 2_000_000 / buckets as usize / size.scale.min(20);
-    let Pair {
-        words,
-        ours,
-        record,
-        theirs,
-    } = &pair;
-    compare(
-        &format!("a point, B {buckets}"),
-        size,
-        count,
-        || {
-            (0..count as u64).fold(0u64, |sum, k| {
-                let p = proved::point(words, (buckets, 1), k % (buckets + 1), ours);
-                sum.wrapping_add(p.map_or(7, |p| p.hits ^ p.misses ^ p.size))
-            })
-        },
-        || {
-            (0..count as u64).fold(0u64, |sum, k| {
-                let p = plain::point(
-                    record,
-                    (buckets, 1),
-                    k % (buckets + 1),
-                    &theirs.counts,
-                    &theirs.thresholds,
-                );
-                sum.wrapping_add(p.map_or(7, |p| p.hits ^ p.misses ^ p.size))
-            })
-        },
-    )
-}
-
-/// The plain reading, called as the library's is: words out, a number back.
-///
-/// # Safety
-/// `event` points to seven words, `bytes` to `length` bytes.
-unsafe extern "C" fn plain_read(event: *mut u64, bytes: *const u8, length: usize) -> u64 {
-    match plain::read(std::slice::from_raw_parts(bytes, length)) {
-        Ok((e, taken)) => {
-            *event.cast::<[u64; 7]>() = proved::event_words(e, taken);
-            0
+impl<E: Engine, N: Fn(&[u64], usize) -> u64> Work for References<E, N> {
+    fn run(&mut self, count: usize) -> u64 {
+        let mut sum: u64 = 0;
+        for _ in 0..count {
+            let location = (self.next)(&self.engine.tables().locations, self.turn);
+            self.turn += 1;
+            sum = sum.wrapping_add(weight(self.engine.refer(location)));
         }
-        Err(number) => number,
+        sum
+    }
+
+    fn state(&self) -> Vec<u64> {
+        state_of(&self.engine)
     }
 }
 
-fn reading(size: Size) -> Row {
-    let count = 1_000_000 / size.scale;
-    let bytes = crate::program::trace(count);
-    let run = |read: unsafe extern "C" fn(*mut u64, *const u8, usize) -> u64| {
-        let read = black_box(read);
+fn references<E, N>(engine: E, next: N) -> Box<dyn Work>
+where
+    E: Engine + 'static,
+    N: Fn(&[u64], usize) -> u64 + 'static,
+{
+    Box::new(References {
+        engine,
+        turn: 0,
+        next,
+    })
+}
+
+fn skipped() -> HotPath {
+    fn work<E: Engine + 'static>() -> Box<dyn Work> {
+        references(E::new(settings(1024, 1, 256, 1)), |_, turn| {
+            (turn as u64).wrapping_mul(0x9e37_79b9_7f4a_7c15) | 1
+        })
+    }
+    HotPath {
+        name: "a reference that is Skipped".to_string(),
+        timed: 4_000_000,
+        counted: 10_000,
+        proved: work::<Proved>,
+        plain: work::<Plain>,
+    }
+}
+
+fn again<const LIMIT: u64>() -> HotPath {
+    fn work<E: Engine + 'static, const LIMIT: u64>() -> Box<dyn Work> {
+        let mut engine = E::new(settings(LIMIT, FULL_RATE, 256, 1));
+        for x in 0..LIMIT {
+            let _ = engine.refer(x);
+        }
+        references(engine, |locations, _| locations[LIMIT as usize / 2])
+    }
+    HotPath {
+        name: format!("Again at the middle of the list, S {LIMIT}"),
+        timed: 400_000,
+        counted: 200,
+        proved: work::<Proved, LIMIT>,
+        plain: work::<Plain, LIMIT>,
+    }
+}
+
+fn lowering() -> HotPath {
+    fn work<E: Engine + 'static>() -> Box<dyn Work> {
+        let top = FULL_RATE - 1;
+        let mut engine = E::new(settings(8192, FULL_RATE, 256, 0));
+        for x in 0..8192 {
+            let _ = engine.refer(top - x);
+        }
+        references(engine, move |_, turn| top - 8192 - turn as u64)
+    }
+    HotPath {
+        name: "First with a lowering, S 8192".to_string(),
+        timed: 4_000,
+        counted: 40,
+        proved: work::<Proved>,
+        plain: work::<Plain>,
+    }
+}
+
+struct Points<E> {
+    engine: E,
+    buckets: u64,
+}
+
+impl<E: Engine> Work for Points<E> {
+    fn run(&mut self, count: usize) -> u64 {
+        let believed = (self.buckets, 1);
+        (0..count as u64).fold(0u64, |sum, k| {
+            let p = self.engine.point(believed, k % (self.buckets + 1));
+            sum.wrapping_add(p.map_or(7, |p| p.hits ^ p.misses ^ p.size))
+        })
+    }
+
+    fn state(&self) -> Vec<u64> {
+        state_of(&self.engine)
+    }
+}
+
+fn point<const BUCKETS: u64>() -> HotPath {
+    fn work<E: Engine + 'static, const BUCKETS: u64>() -> Box<dyn Work> {
+        let mut engine = E::new(settings(8192, FULL_RATE, BUCKETS, 1));
+        for x in 0..4 * BUCKETS {
+            let _ = engine.refer(x * x % (BUCKETS / 2 + 1));
+        }
+        Box::new(Points {
+            engine,
+            buckets: BUCKETS,
+        })
+    }
+    HotPath {
+        name: format!("a point, B {BUCKETS}"),
+        timed: 2_000_000 / BUCKETS as usize,
+        counted: 100_000 / BUCKETS as usize,
+        proved: work::<Proved, BUCKETS>,
+        plain: work::<Plain, BUCKETS>,
+    }
+}
+
+const READ_EVENTS: usize = 1_000_000;
+
+struct Reads {
+    read: Read,
+    bytes: Vec<u8>,
+}
+
+impl Work for Reads {
+    fn run(&mut self, count: usize) -> u64 {
+        let read = unseen(self.read);
+        // Four events of the trace take 40 bytes.
+        let bytes = &self.bytes[..count / 4 * 40];
         let (mut at, mut sum, mut event) = (0, 0u64, [0u64; 7]);
         while at < bytes.len() {
             let left = &bytes[at..];
@@ -252,25 +228,95 @@ fn reading(size: Size) -> Row {
             at += event[1] as usize;
         }
         sum
-    };
-    compare(
-        "reading an event",
-        size,
-        count,
-        || run(interface::rockgingham_read),
-        || run(plain_read),
-    )
+    }
+
+    fn state(&self) -> Vec<u64> {
+        Vec::new()
+    }
 }
 
-pub fn rows(size: Size) -> Vec<Row> {
+fn reading() -> HotPath {
+    fn work<E: Engine>() -> Box<dyn Work> {
+        Box::new(Reads {
+            read: E::READ,
+            bytes: crate::program::trace(READ_EVENTS),
+        })
+    }
+    HotPath {
+        name: "reading an event".to_string(),
+        timed: READ_EVENTS,
+        counted: 10_000,
+        proved: work::<Proved>,
+        plain: work::<Plain>,
+    }
+}
+
+pub fn hot_paths() -> Vec<HotPath> {
     vec![
-        hash(size),
-        skipped(size),
-        again(size, 1024),
-        again(size, 8192),
-        lowering(size),
-        point(size, 256),
-        point(size, 10_000),
-        reading(size),
+        hash(),
+        skipped(),
+        again::<1024>(),
+        again::<8192>(),
+        lowering(),
+        point::<256>(),
+        point::<10_000>(),
+        reading(),
     ]
+}
+
+/// A number for a whole state.
+fn digest(state: &[u64]) -> u64 {
+    state.iter().fold(0, |sum, x| {
+        (sum.rotate_left(5) ^ x).wrapping_mul(0x9e37_79b9_7f4a_7c15)
+    })
+}
+
+impl HotPath {
+    /// So many operations of one side alone, to be counted: prints what both sides must agree on.
+    pub fn work(&self, side: &str, count: usize) {
+        let mut work = match side {
+            "proved" => (self.proved)(),
+            _ => (self.plain)(),
+        };
+        let sum = work.run(count);
+        println!("answers {sum} state {}", digest(&work.state()));
+    }
+
+    fn timed(&self, size: Size) -> Cost {
+        let (mut ours, mut theirs) = ((self.proved)(), (self.plain)());
+        let count = (self.timed / size.scale).max(1);
+        let cost = nanoseconds(
+            &self.name,
+            size.rounds,
+            count,
+            || ours.run(count),
+            || theirs.run(count),
+        );
+        assert!(ours.state() == theirs.state(), "{}: states", self.name);
+        cost
+    }
+
+    /// Each side in a process of its own, this program under the counter.
+    fn counted(&self, number: usize, counter: &Counter) -> Cost {
+        let own = std::env::current_exe().expect("this program's own path");
+        let side = |command: &mut Command, side: &str, count: usize| {
+            command.arg(&own).arg("work");
+            command.args([&number.to_string(), side, &count.to_string()]);
+        };
+        counter.instructions(
+            &self.name,
+            self.counted,
+            |command, count| side(command, "proved", count),
+            |command, count| side(command, "plain", count),
+        )
+    }
+
+    /// The row of the table: timed where a size is given, counted where a counter is.
+    pub fn row(&self, number: usize, size: Option<Size>, counter: Option<&Counter>) -> Row {
+        Row {
+            name: self.name.clone(),
+            nanoseconds: size.map(|size| self.timed(size)),
+            instructions: counter.map(|counter| self.counted(number, counter)),
+        }
+    }
 }

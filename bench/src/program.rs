@@ -1,12 +1,11 @@
 //! The program that prints a curve against a plain one, on the same trace.
 
-use crate::measure::{Row, Size};
+use crate::measure::{nanoseconds, Cost, Counter, Row, Size};
 use crate::plain::{self, Record, Settings, Tables};
 use std::fs::File;
 use std::io::{self, Read, Write};
-use std::path::Path;
-use std::process::{Command, Stdio};
-use std::time::Instant;
+use std::path::{Path, PathBuf};
+use std::process::Command;
 
 /// A made trace of so many events: locations over a few million blocks, every fourth a span.
 pub fn trace(events: usize) -> Vec<u8> {
@@ -102,48 +101,76 @@ fn print_curve(k: &Record, t: &Tables) {
         .expect("a write that works");
 }
 
-/// Runs a program on the trace file: the seconds it took, and what it printed.
-fn run(program: &Path, argument: Option<&str>, trace: &Path) -> (f64, Vec<u8>) {
-    let mut command = Command::new(program);
-    command.args(argument).stdin(Stdio::from(
-        File::open(trace).expect("the trace can be read"),
-    ));
-    let begun = Instant::now();
-    let output = command.output().expect("the program can be run");
-    (begun.elapsed().as_secs_f64(), output.stdout)
-}
+/// A trace in a file of its own, which goes with it.
+struct TraceFile(PathBuf);
 
-fn median(mut seconds: Vec<f64>) -> f64 {
-    seconds.sort_by(f64::total_cmp);
-    seconds[seconds.len() / 2]
-}
-
-/// Both programs on one trace of about 100 MB, and the proved one's events in a second.
-pub fn row(size: Size, curve: &Path) -> (Row, f64) {
-    let events = 10_000_000 / size.scale;
-    let file = std::env::temp_dir().join(format!("rockgingham-bench-{}", std::process::id()));
-    std::fs::write(&file, trace(events)).expect("the trace can be written");
-    let own = std::env::current_exe().expect("this program's own path");
-    let (mut first, mut second) = (Vec::new(), Vec::new());
-    for _ in 0..size.rounds.min(5) {
-        let (seconds, ours) = run(curve, None, &file);
-        first.push(seconds);
-        let (seconds, theirs) = run(&own, Some("curve"), &file);
-        second.push(seconds);
-        assert_eq!(
-            String::from_utf8_lossy(&ours),
-            String::from_utf8_lossy(&theirs),
-            "the two programs print different curves"
-        );
+impl TraceFile {
+    fn new(events: usize) -> TraceFile {
+        let name = format!("rockgingham-bench-{}-{events}", std::process::id());
+        let path = std::env::temp_dir().join(name);
+        std::fs::write(&path, trace(events)).expect("the trace can be written");
+        TraceFile(path)
     }
-    std::fs::remove_file(&file).expect("the trace can be removed");
-    let (proved, plain) = (median(first), median(second));
-    let each = 1e9 / events as f64;
-    let row = Row {
-        name: format!("the program, an event of {events}"),
-        proved: proved * each,
-        plain: plain * each,
-        unit: "ns",
-    };
-    (row, events as f64 / proved)
+
+    fn open(&self) -> File {
+        File::open(&self.0).expect("the trace can be read")
+    }
+}
+
+impl Drop for TraceFile {
+    fn drop(&mut self) {
+        let _ = std::fs::remove_file(&self.0);
+    }
+}
+
+const TIMED: usize = 10_000_000;
+const COUNTED: usize = 1_000_000;
+
+/// What a program prints of a trace.
+fn printed(mut command: Command, trace: &TraceFile) -> String {
+    let end = command.stdin(trace.open()).output();
+    let output = end.expect("the program can be run").stdout;
+    String::from_utf8_lossy(&output).into_owned()
+}
+
+fn timed(size: Size, curve: &Path, own: &Path) -> Cost {
+    let events = TIMED / size.scale;
+    let trace = TraceFile::new(events);
+    nanoseconds(
+        "the program",
+        size.rounds.min(5),
+        events,
+        || printed(Command::new(curve), &trace),
+        || {
+            let mut plain = Command::new(own);
+            plain.arg("curve");
+            printed(plain, &trace)
+        },
+    )
+}
+
+/// Of a trace and of one that is twice as long and begins with it.
+fn counted(counter: &Counter, curve: &Path, own: &Path) -> Cost {
+    let traces = [TraceFile::new(COUNTED), TraceFile::new(2 * COUNTED)];
+    let input = |events: usize| traces[events / COUNTED - 1].open();
+    counter.instructions(
+        "the program",
+        COUNTED,
+        |command, events| {
+            command.arg(curve).stdin(input(events));
+        },
+        |command, events| {
+            command.arg(own).arg("curve").stdin(input(events));
+        },
+    )
+}
+
+/// Both programs on one trace; about 100 MB are timed at the full size.
+pub fn row(size: Option<Size>, counter: Option<&Counter>, curve: &Path) -> Row {
+    let own = std::env::current_exe().expect("this program's own path");
+    Row {
+        name: "the program, an event".to_string(),
+        nanoseconds: size.map(|size| timed(size, curve, &own)),
+        instructions: counter.map(|counter| counted(counter, curve, &own)),
+    }
 }
