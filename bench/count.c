@@ -11,11 +11,13 @@
 
 typedef uint64_t plugin_id;
 struct qemu_info;
-struct qemu_plugin_tb; /* a block of instructions, translated once and executed as a whole */
+struct qemu_plugin_tb; /* a block of instructions, translated once */
+struct qemu_plugin_insn;
 
 void qemu_plugin_register_vcpu_tb_trans_cb(plugin_id id, void (*on_translation)(plugin_id, struct qemu_plugin_tb *));
-void qemu_plugin_register_vcpu_tb_exec_inline(struct qemu_plugin_tb *block, int operation, void *counter, uint64_t operand);
 size_t qemu_plugin_tb_n_insns(const struct qemu_plugin_tb *block);
+struct qemu_plugin_insn *qemu_plugin_tb_get_insn(const struct qemu_plugin_tb *block, size_t place);
+void qemu_plugin_register_vcpu_insn_exec_inline(struct qemu_plugin_insn *instruction, int operation, void *counter, uint64_t operand);
 void qemu_plugin_register_atexit_cb(plugin_id id, void (*on_exit)(plugin_id, void *), void *argument);
 
 enum { ADD = 0 };
@@ -25,11 +27,17 @@ int qemu_plugin_version = 1;
 
 static uint64_t instructions;
 
-/* From now on, each execution of the block adds its instructions. */
+/*
+ * From now on, each instruction of the block adds 1 when it is executed. One number for the whole block would be less work, and
+ * wrong: of a block that ends where the next instruction crosses a page, qemu 7.2 counts that one too.
+ */
 static void on_translation(plugin_id id, struct qemu_plugin_tb *block)
 {
+    size_t count = qemu_plugin_tb_n_insns(block);
     (void)id;
-    qemu_plugin_register_vcpu_tb_exec_inline(block, ADD, &instructions, qemu_plugin_tb_n_insns(block));
+    for (size_t place = 0; place < count; place++) {
+        qemu_plugin_register_vcpu_insn_exec_inline(qemu_plugin_tb_get_insn(block, place), ADD, &instructions, 1);
+    }
 }
 
 static void on_exit_say(plugin_id id, void *argument)

@@ -18,7 +18,7 @@ rust_target=x86_64-unknown-linux-gnu
 # Runs a program that was built for x86-64.
 run() { ${emulator:+"$emulator"} "$@"; }
 
-say() { echo "${0##*/}: $*" >&2; }
+say() { echo "$0: $*" >&2; }
 fail() { say "$*"; exit 1; }
 
 # ---- What is needed. For each thing: whether it is there, and the Debian packages that bring it.
@@ -40,7 +40,7 @@ have_c() { links "$compiler"; }
 packages_murmurhash='libmurmurhash-dev:amd64'
 have_murmurhash() { links "$compiler" -lmurmurhash; }
 
-# The Rust of the path, if it has the standard library of x86-64, or else Debian's.
+# The Rust of the path, if it has the standard library of x86-64, or else Debian's. `rust` is the folder of its commands.
 packages_rust='cargo rustc libstd-rust-dev:amd64'
 have_rust() {
     local folder libraries
@@ -60,24 +60,28 @@ have_count() { [ -n "$(command -v qemu-x86_64)" ] && links cc; }
 
 # Installs what is missing of the named things, and nothing else.
 need() { # THING...
-    local thing name missing=() packages=() lacking=() complaint=''
-    for thing in "$@"; do
-        "have_$thing" || missing+=("$thing")
-    done
-    [ ${#missing[@]} -gt 0 ] || return 0
-    for thing in "${missing[@]}"; do
-        name=packages_$thing
-        read -ra packages <<<"${packages[*]} ${!name}"
-    done
-    [ "$(id -u)" = 0 ] || fail "not installed, since only root can install packages: ${packages[*]}"
-    say "installing ${packages[*]}"
-    install_packages "${packages[@]}"
-    for thing in "${missing[@]}"; do
-        name=packages_$thing
-        "have_$thing" || lacking+=("${!name}")
-    done
-    [ ${#lacking[@]} -eq 0 ] || fail "could not install: ${lacking[*]} ($complaint)"
+    local packages complaint=''
+    packages=$(missing "$@")
+    [ -n "$packages" ] || return 0
+    [ "$(id -u)" = 0 ] || fail "not installed, since only root can install packages:" $packages
+    say installing $packages
+    install_packages $packages
+    packages=$(missing "$@")
+    [ -z "$packages" ] || fail "could not install:" $packages "($complaint)"
 }
+
+# The packages of the named things that are not there.
+missing() { # THING...
+    local thing package packages
+    for thing in "$@"; do
+        if ! "have_$thing"; then
+            packages=packages_$thing
+            for package in ${!packages}; do installed "$package" || echo "$package"; done
+        fi
+    done | sort -u
+}
+
+installed() { dpkg-query -W -f '${db:Status-Status}\n' "$1" 2>/dev/null | grep -qx installed; }
 
 # Standard input may be a trace, so nothing here reads it.
 get() { # WORDS-FOR-APT-GET...
@@ -95,14 +99,15 @@ install_packages() { # PACKAGE...
 
 # ---- What is built.
 
-# Proves and builds again what is missing or older than a source. What rt says goes to standard error.
+# Proves and builds again what is missing or older than a source. Standard error says how far it is.
 made() { # FILE WORDS-FOR-RT...
-    local file=$1 begun
+    local file=$1 log=target/made.log begun
     if [ -e "$file" ] && [ -z "$(find crates crates.txt -newer "$file" -print -quit)" ]; then return 0; fi
     [ -n "$(command -v rt)" ] || fail "rt, the command of the Rattle kit, is not on the path"
     say "proving and building $file, which takes some minutes"
+    mkdir -p target
     begun=$(date +%s.%N)
-    rt "${@:2}" </dev/null >&2
+    rt "${@:2}" </dev/null 2>&1 | tee "$log" | { grep --line-buffered '^rt: ' >&2 || true; } || fail "not built; $log says why"
     touch -d "@$begun" "$file"
 }
 made_program() { made target/bin/curve check curve; }
@@ -110,6 +115,7 @@ made_library() { made target/staticlib/libdriver.a staticlib driver; }
 
 # Builds the Rust program of a folder. `built` is where it stands.
 build_rust() { # FOLDER NAME
+    have_rust
     RUSTC=$rust/rustc CARGO_TARGET_X86_64_UNKNOWN_LINUX_GNU_LINKER=$compiler \
         "$rust/cargo" build --quiet --offline --locked --release --target $rust_target --manifest-path "$1/Cargo.toml"
     built=$1/target/$rust_target/release/$2

@@ -149,7 +149,7 @@ fn long_input(random: &mut Random, length: usize) -> Vec<u8> {
     bytes
 }
 
-/// 20 MB in one go; irregular pieces; ends near the edges of buffers; events cut and refused; no input at all.
+/// A long input in one go; irregular pieces; ends near the edges of buffers; events cut and refused; no input at all.
 pub fn pipes(model: &Model, seed: u64, length: usize) -> Result<(), String> {
     let mut random = Random::new(seed);
     let long = long_input(&mut random, length);
