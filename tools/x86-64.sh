@@ -99,7 +99,7 @@ install_packages() { # PACKAGE...
 
 # ---- What is built.
 
-# Proves and builds again what is missing or older than a source. Standard error says how far it is.
+# Proves and builds again what is missing or older than a source. Standard error shows the progress.
 made() { # FILE WORDS-FOR-RT...
     local file=$1 log=target/made.log begun
     if [ -e "$file" ] && [ -z "$(find crates crates.txt -newer "$file" -print -quit)" ]; then return 0; fi
