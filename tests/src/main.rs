@@ -33,7 +33,7 @@ const NATIVE: Sizes = Sizes {
     long_input: 20_000_000,
 };
 
-/// An emulator takes some twenty times as long.
+/// Under an emulator everything takes many times as long.
 const EMULATED: Sizes = Sizes {
     damaged_calls: 250_000,
     random_inputs: 500,
