@@ -1,6 +1,6 @@
 /*
  * A plugin of qemu's user-mode emulator: counts the instructions that a program executes, and says 'instructions N' on standard
- * error when it exits. The same program on the same input gives the same number on any machine, however busy.
+ * error when it exits. The same program on the same input gives the same number on every run, however busy the machine.
  *
  * Debian's qemu-user comes without the header for plugins, so the part of version 1 of that interface that is used is declared here.
  */
