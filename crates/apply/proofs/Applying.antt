@@ -13,7 +13,8 @@ use Rattle.rules.specs.declared.Referred.{Referred}
 use Rattle.rules.specs.declared.Answer.{Answer}
 use Rattle.rules.specs.declared.Answer.the-variants as answer
 use Rattle.rules.specs.Answers.{gives, saidAnswer, saidTaken}
-use Rattle.rules.specs.Refusals.{Held, Outcome, held, Beginning, setupOf, restartOf, referOf, startedOver, goingOn, referAll, applyOf, afterStarted, afterReferred, afterApplied}
+use Rattle.rules.specs.Layout.{Held, held}
+use Rattle.rules.specs.Calls.{Outcome, Beginning, setupOf, restartOf, referOf, startedOver, goingOn, referAll, applyOf, afterStarted, afterReferred, afterApplied}
 use Rattle.rules.proofs.Tests.{cases}
 use Rattle.apply.specs.declared.Asked.{Asked}
 use Rattle.apply.specs.declared.Asked.the-variants as asked

@@ -3,7 +3,7 @@ use Prim.Native.Nat.{ℕ}
 use mathlib.Core.Path.{_≡_, sym, ap, _∙_}
 use mathlib.Core.List.{List}
 use Rattle.rules.specs.declared.Applied.{Applied}
-use Rattle.rules.specs.Refusals.{Outcome, afterApplied}
+use Rattle.rules.specs.Calls.{Outcome, afterApplied}
 use Rattle.rules.proofs.Tables.{each-same}
 use Rattle.rules.proofs.Answers.{taken-injective}
 

@@ -11,7 +11,8 @@ use rules::Started;
 use rules::Taken;
 ghost use mathlib.Core.Path.{_≡_};
 ghost use Rattle.rules.specs.Events.{settingsOf};
-ghost use Rattle.rules.specs.Refusals.{held, afterApplied, applyOf};
+ghost use Rattle.rules.specs.Layout.{held};
+ghost use Rattle.rules.specs.Calls.{applyOf, afterApplied};
 ghost use Rattle.apply.specs.Asking.{askedBy, startedOn, takenFrom};
 
 // What an event asks of a tracker: at most one reference, or a fresh start.

@@ -12,7 +12,7 @@ use Rattle.rules.specs.Settings.{Histogram, needed}
 use Rattle.rules.specs.Reference.{rescaled, countAt, thresholdAt, recordIn}
 use Rattle.rules.specs.Curve.{sumTo, rawTo, hitsAt, totalOf}
 use Rattle.rules.specs.Answers.{refused, gives}
-use Rattle.rules.specs.Refusals.{tornAt, anyTorn, tornTo, tornReport}
+use Rattle.rules.specs.Conditions.{tornAt, anyTorn, tornTo, tornReport}
 use Rattle.rules.proofs.Tests.{cases, or-left, or-right}
 use Rattle.rules.proofs.Bounds.{sound, sound-rescaled}
 use Rattle.buckets.specs.Buckets.{unrecordable, recordedOf, reportOf, SoFar}

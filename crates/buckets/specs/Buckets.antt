@@ -10,7 +10,8 @@ use Rattle.rules.specs.Settings.{Histogram}
 use Rattle.rules.specs.Reference.{recordIn}
 use Rattle.rules.specs.Curve.{sumTo, rawTo}
 use Rattle.rules.specs.Answers.{Said, refused, gives}
-use Rattle.rules.specs.Refusals.{bucketsOf, tornAt, anyTorn, tornTo}
+use Rattle.rules.specs.Layout.{bucketsOf}
+use Rattle.rules.specs.Conditions.{tornAt, anyTorn, tornTo}
 use Rattle.buckets.specs.declared.Added.{Added}
 use Rattle.buckets.specs.declared.Added.the-variants as added
 

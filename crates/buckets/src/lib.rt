@@ -5,7 +5,8 @@ ghost use mathlib.Core.Path.{_≡_};
 ghost use mathlib.Core.Bool.{false};
 ghost use Prim.Native.Nat.{_≤_, min};
 ghost use lib.ListN.{length};
-ghost use Rattle.rules.specs.Refusals.{bucketsOf, tornBucket};
+ghost use Rattle.rules.specs.Layout.{bucketsOf};
+ghost use Rattle.rules.specs.Conditions.{tornBucket};
 ghost use Rattle.rules.specs.Answers.{saidReported};
 ghost use Rattle.buckets.specs.Buckets.{recorded, recordedOf, SoFar, addedTo, reportOf};
 

@@ -12,7 +12,8 @@ use Rattle.rules.specs.Answers.{Said, refused, gives, numberOf}
 use Rattle.rules.specs.declared.Record.{Record}
 use Rattle.rules.specs.Lists.{over}
 use Rattle.rules.specs.Settings.{Histogram, Tables}
-use Rattle.rules.specs.Refusals.{Held, Beginning, setupOf}
+use Rattle.rules.specs.Layout.{Held}
+use Rattle.rules.specs.Calls.{Beginning, setupOf}
 use Rattle.rules.proofs.Tests.{or-neither}
 use Rattle.rules.proofs.Answers.{number-some, number-refused}
 use Rattle.rules.proofs.Tables.{over-front}

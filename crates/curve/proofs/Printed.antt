@@ -3,9 +3,10 @@ use Prim.Native.Nat.{ℕ}
 use mathlib.Core.Path.{_≡_, refl, ap, _∙_}
 use mathlib.Core.Bool.{false}
 use mathlib.Core.List.{List, []}
-use Rattle.rules.specs.Settings.{withDefaults, outOfRange, tooShort}
+use Rattle.rules.specs.Settings.{withDefaults, outOfRange}
 use Rattle.rules.specs.Answers.{gives}
-use Rattle.rules.specs.Refusals.{setupOf}
+use Rattle.rules.specs.Conditions.{tooShort}
+use Rattle.rules.specs.Calls.{setupOf}
 use Rattle.rules.proofs.Calls.{setup-accept}
 use Rattle.demands.specs.Runs.{setup}
 use Rattle.feed.specs.Feed.{feedOf}

@@ -6,7 +6,7 @@ use lib.ListN.{take}
 use Rattle.rules.specs.declared.Event.{Event}
 use Rattle.rules.specs.Answers.{gives}
 use Rattle.rules.specs.Settings.{withDefaults}
-use Rattle.rules.specs.Refusals.{Held, fresh}
+use Rattle.rules.specs.Layout.{Held, fresh}
 use Rattle.demands.specs.Runs.{Run}
 use Rattle.text.specs.Text.{curveText}
 use Rattle.feed.specs.Feed.{whole, feedOf}

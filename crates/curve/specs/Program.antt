@@ -7,7 +7,8 @@ use Rattle.rules.specs.declared.Record.{Record}
 use Rattle.rules.specs.declared.Settings.{Settings}
 use Rattle.rules.specs.Settings.{Tables}
 use Rattle.rules.specs.Answers.{Said, refused, gives}
-use Rattle.rules.specs.Refusals.{Held, tablesOf, setupOf}
+use Rattle.rules.specs.Layout.{Held, tablesOf}
+use Rattle.rules.specs.Calls.{setupOf}
 use Rattle.text.specs.Text.{refusedLine, curveText}
 use Rattle.feed.specs.declared.Fed.{Fed}
 use Rattle.feed.specs.Feed.{End, whole, inside, saidEnding, feedOf}

@@ -15,7 +15,7 @@ ghost use Prim.Native.Nat.{_+_, _-_, _≤_, _<_};
 ghost use lib.Dec.{ltb};
 ghost use lib.ListN.{length, take, drop};
 ghost use Rattle.rules.specs.Answers.{numberOf};
-ghost use Rattle.rules.specs.Refusals.{bucketsOf, tablesOf, held};
+ghost use Rattle.rules.specs.Layout.{bucketsOf, tablesOf, held};
 ghost use Rattle.text.specs.Text.{refusedLine, curveText};
 ghost use Rattle.feed.specs.Feed.{saidEnding};
 ghost use Rattle.curve.specs.Program.{Fitting, firstSettings, textFrom, textOver, programOf, Stands, Telling, Ready, AfterFed, AfterBytes, AfterRead};

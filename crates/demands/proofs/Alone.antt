@@ -9,9 +9,11 @@ use lib.ListN.{length}
 use borrow.Author.Tests.{ltb-true, ltb-false, lt-ltb, ne-eqb}
 use Rattle.rules.specs.declared.Settings.{Settings}
 use Rattle.rules.specs.Lists.{keep}
-use Rattle.rules.specs.Settings.{Tables, outOfRange, tooShort, mostReferences}
+use Rattle.rules.specs.Settings.{Tables, outOfRange, mostReferences}
 use Rattle.rules.specs.Reference.{under}
-use Rattle.rules.specs.Refusals.{Held, hashFor, laid, fresh, freshRecord, stepOf}
+use Rattle.rules.specs.Layout.{Held, hashFor, laid, freshRecord, fresh}
+use Rattle.rules.specs.Conditions.{tooShort}
+use Rattle.rules.specs.Calls.{stepOf}
 use Rattle.rules.specs.History.{recency, different, Largest}
 use Rattle.rules.proofs.Tests.{cases}
 use Rattle.rules.proofs.Lists.{keep-keep, keep-length, keep-narrow}

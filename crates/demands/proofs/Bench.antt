@@ -7,12 +7,14 @@ use native.Mathlib.Nat.{mul-zero, zero-div}
 use native.Mathlib.Omega.{arith}
 use borrow.Author.Tests.{le-ltb, eq-eqb}
 use Rattle.rules.specs.declared.Settings.{Settings}
-use Rattle.rules.specs.Settings.{Histogram, Tables, withDefaults, outOfRange, tooShort, hashOf}
+use Rattle.rules.specs.Settings.{Histogram, Tables, withDefaults, outOfRange, hashOf}
 use Rattle.rules.specs.Reference.{Reply, skipped, firstFrom, largest, settled, sampled, step, rescaled, countAt, thresholdAt}
 use Rattle.rules.specs.Curve.{sumTo, rawTo}
 use Rattle.rules.specs.Answers.{refused, gives}
 use Rattle.rules.specs.Events.{readOf}
-use Rattle.rules.specs.Refusals.{Held, sampleOf, hashFor, profileOf, freshRecord, tornRecord, tornBucket, anyTorn, tornTo, setupOf, stepOf, referOf, referAll, goingOn, pointOf}
+use Rattle.rules.specs.Layout.{Held, sampleOf, hashFor, profileOf, freshRecord}
+use Rattle.rules.specs.Conditions.{tooShort, tornRecord, tornBucket, anyTorn, tornTo}
+use Rattle.rules.specs.Calls.{setupOf, stepOf, referOf, pointOf, goingOn, referAll}
 use Rattle.rules.proofs.Clean.{step-falls}
 use Rattle.rules.proofs.Hash.{hash-zero}
 use Rattle.rules.proofs.Calls.{refer-accept, refer-either, setup-accept, setup-range}

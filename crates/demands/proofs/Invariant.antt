@@ -7,10 +7,12 @@ use native.Mathlib.Omega.{arith}
 use lib.ListN.{length}
 use Rattle.rules.specs.declared.Settings.{Settings}
 use Rattle.rules.specs.declared.Record.{Record}
-use Rattle.rules.specs.Settings.{outOfRange, Tables, needed, tooShort, full}
+use Rattle.rules.specs.Settings.{outOfRange, Tables, needed}
 use Rattle.rules.specs.Reference.{under, firstPlace, Reply, skipped, first, again}
 use Rattle.rules.specs.Answers.{gives}
-use Rattle.rules.specs.Refusals.{Held, liveOf, sampleOf, hashFor, profileOf, counted, laid, freshRecord, freshTables, fresh, tornRecord, tornAt, tornFor, Beginning, stepOf}
+use Rattle.rules.specs.Layout.{Held, liveOf, sampleOf, hashFor, profileOf, counted, laid, freshTables, freshRecord, fresh}
+use Rattle.rules.specs.Conditions.{tooShort, tornRecord, tornAt, tornFor, full}
+use Rattle.rules.specs.Calls.{Beginning, stepOf}
 use Rattle.rules.proofs.Tests.{cases}
 use Rattle.rules.proofs.Tables.{over-front}
 use Rattle.rules.proofs.Bounds.{Whole, whole, untorn, InRange, in-range, all-long, none-short, not-torn}

@@ -7,10 +7,12 @@ use native.Mathlib.Omega.{arith}
 use lib.Dec.{eqb}
 use lib.ListN.{length}
 use borrow.Author.Tests.{eq-eqb, ne-eqb, le-ltb}
-use Rattle.rules.specs.Settings.{P, Histogram, needed, bucketsTooShort}
+use Rattle.rules.specs.Settings.{P, Histogram, needed}
 use Rattle.rules.specs.Curve.{sumTo, totalOf}
 use Rattle.rules.specs.Answers.{gives}
-use Rattle.rules.specs.Refusals.{Held, sampleOf, hashFor, profileOf, anyTorn, tornTo, pointOf}
+use Rattle.rules.specs.Layout.{Held, sampleOf, hashFor, profileOf}
+use Rattle.rules.specs.Conditions.{bucketsTooShort, anyTorn, tornTo}
+use Rattle.rules.specs.Calls.{pointOf}
 use Rattle.rules.specs.History.{recency, Largest}
 use Rattle.rules.specs.Cache.{hits}
 use Rattle.rules.proofs.Tests.{or-neither}

@@ -10,12 +10,14 @@ use Rattle.rules.specs.Settings.{mostReferences}
 use Rattle.rules.specs.Reference.{Reply, skipped, first, again}
 use Rattle.rules.specs.Lists.{has}
 use Rattle.rules.specs.Answers.{gives}
-use Rattle.rules.specs.Refusals.{Held, sampleOf, hashFor, profileOf, counted, stepOf, referOf}
+use Rattle.rules.specs.Layout.{Held, sampleOf, hashFor, profileOf, counted}
+use Rattle.rules.specs.Calls.{stepOf, referOf}
 use Rattle.rules.proofs.Tests.{cases}
 use Rattle.rules.proofs.Steps.{replied-skipped, replied-first, replied-again}
-use Rattle.rules.proofs.Calls.{not-both, refer-accept, refer-accepted, refer-either, refer-full, setup-either, restart-either}
+use Rattle.rules.proofs.Calls.{refer-accept, refer-accepted, refer-full}
 use Rattle.demands.specs.Runs.{Run, answers, sampledIn}
 use Rattle.demands.specs.Statements.{inForce, Threshold, LiveList, historyReply, Answers, Numbers, OnlyFull, Bounds, RefusedAnywhere}
+use Rattle.demands.proofs.Refusing.{untouched}
 use Rattle.demands.proofs.Invariant.{gives-same, by-run, invariant, accepted}
 
 pub threshold : Threshold
@@ -82,15 +84,9 @@ bounds-hold past s run j h = let c = invariant run .clean in record {
 
 pub refused-anywhere : RefusedAnywhere
 refused-anywhere past s run = record {
-  by-refer = λ x n e. refer-either x s
-      (λ a. absurd (not-both e (ap (λ o. o .said) (refer-accept x s a))))
-      (λ m q. subst (Run past) (sym (ap (λ o. o .left) q)) run);
-  by-restart = λ n e. restart-either (s .kept) (s .tables)
-      (λ b. absurd (not-both e (ap (λ b. b .said) (b .is))))
-      (λ m q. unmoved (ap (λ b. b .tables) q));
-  by-setup = λ given n e. setup-either given (s .tables)
-      (λ b. absurd (not-both e (ap (λ b. b .said) (b .is))))
-      (λ m q. unmoved (ap (λ b. b .tables) q));
+  by-refer = λ x n e. subst (Run past) (sym (untouched .by-refer x s n e)) run;
+  by-restart = λ n e. unmoved (untouched .by-restart (s .kept) (s .tables) n e);
+  by-setup = λ given n e. unmoved (untouched .by-setup given (s .tables) n e);
 }
   where
     unmoved : {t : Rattle.rules.specs.Settings.Tables} → t ≡ s .tables → Run past (record { kept = s .kept; tables = t })

@@ -6,7 +6,9 @@ use lib.Dec.{lit≤}
 use lib.ListN.{length}
 use Rattle.rules.specs.Settings.{P, withDefaults, outOfRange, hashOf}
 use Rattle.rules.specs.Reference.{firstFrom, largest, settled, sampled, step, countAt}
-use Rattle.rules.specs.Refusals.{Held, liveOf, freshRecord, fresh, tornRecord, tornBucket, setupOf, restartOf, referOf}
+use Rattle.rules.specs.Layout.{Held, liveOf, freshRecord, fresh}
+use Rattle.rules.specs.Conditions.{tornRecord, tornBucket}
+use Rattle.rules.specs.Calls.{setupOf, restartOf, referOf}
 use Rattle.rules.specs.History.{recency}
 use Rattle.demands.specs.Runs.{Run, setup, restart, refer}
 use Rattle.demands.specs.Bench.{kind0, zeros}

@@ -7,12 +7,14 @@ use lib.ListN.{replicate}
 use Rattle.rules.specs.declared.Settings.{Settings}
 use Rattle.rules.specs.declared.Point.{Point}
 use Rattle.rules.specs.declared.Event.the-variants.{Restart}
-use Rattle.rules.specs.Settings.{P, Tables, withDefaults, tooShort, hashOf}
+use Rattle.rules.specs.Settings.{P, Tables, withDefaults, hashOf}
 use Rattle.rules.specs.Reference.{Reply, skipped, scaledDistance, countAt, thresholdAt}
 use Rattle.rules.specs.Curve.{hitsAt}
 use Rattle.rules.specs.Answers.{Said, refused, gives}
 use Rattle.rules.specs.Events.{readOf}
-use Rattle.rules.specs.Refusals.{Held, Outcome, liveOf, startedOver, freshRecord, setupOf, referOf, referAll, ownPoint}
+use Rattle.rules.specs.Layout.{Held, liveOf, freshRecord}
+use Rattle.rules.specs.Conditions.{tooShort}
+use Rattle.rules.specs.Calls.{Outcome, setupOf, referOf, ownPoint, startedOver, referAll}
 
 abbrev pub kind0 : (limit start width buckets : ℕ) → Settings
 kind0 limit start width buckets = record { limit = limit; start = start; width = width; buckets = buckets; hashing = record { kind = 0 } }

@@ -7,7 +7,8 @@ use Rattle.rules.specs.declared.Record.{Record}
 use Rattle.rules.specs.Settings.{Tables}
 use Rattle.rules.specs.Reference.{Reply, skipped, first, again}
 use Rattle.rules.specs.Answers.{gives}
-use Rattle.rules.specs.Refusals.{Held, setupOf, restartOf, referOf}
+use Rattle.rules.specs.Layout.{Held}
+use Rattle.rules.specs.Calls.{setupOf, restartOf, referOf}
 
 -- a run since a fresh start, with the record and tables it left: begun by an accepted setup, or by an accepted restart of any record
 -- and tables; continued by accepted references

@@ -13,7 +13,8 @@ use Rattle.rules.specs.Reference.{Reply, skipped, first, again, countAt, thresh
 use Rattle.rules.specs.Curve.{rawTo, totalOf, curvePoint}
 use Rattle.rules.specs.Answers.{refused, gives}
 use Rattle.rules.specs.Events.{eventBytes, eventLength, Fits, readOf, writeOf}
-use Rattle.rules.specs.Refusals.{Held, liveOf, hashFor, profileOf, setupOf, restartOf, referOf, ownPoint}
+use Rattle.rules.specs.Layout.{Held, liveOf, hashFor, profileOf}
+use Rattle.rules.specs.Calls.{setupOf, restartOf, referOf, ownPoint}
 use Rattle.rules.specs.History.{recency, distance, Largest}
 use Rattle.rules.specs.Cache.{hits}
 use Rattle.demands.specs.Runs.{Run, answers, sampledIn}

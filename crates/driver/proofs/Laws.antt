@@ -7,7 +7,7 @@ use Rattle.rules.specs.Settings.{Tables}
 use Rattle.rules.specs.Reference.{Reply}
 use Rattle.rules.specs.Answers.{Said, refused, gives, numberOf}
 use Rattle.rules.specs.Events.{Filling}
-use Rattle.rules.specs.Refusals.{Beginning, Outcome}
+use Rattle.rules.specs.Calls.{Outcome, Beginning}
 use Rattle.words.specs.Words.{wordsOf, replyWords, put}
 use Rattle.driver.specs.Calls.{started, begun, referred, stepped, given, into, written}
 

@@ -10,7 +10,7 @@ use Rattle.rules.specs.Settings.{hashOf, Histogram, Tables}
 use Rattle.rules.specs.Reference.{Reply}
 use Rattle.rules.specs.Answers.{Said, numberOf}
 use Rattle.rules.specs.Events.{Filling, writeOf, readOf}
-use Rattle.rules.specs.Refusals.{Beginning, Outcome, setupOf, restartOf, referOf, pointOf, plotOf}
+use Rattle.rules.specs.Calls.{Outcome, Beginning, setupOf, restartOf, referOf, pointOf, plotOf}
 use Rattle.words.specs.Words.{recordOf, wordsOf, replyWords, pointWords, plotWords, eventWords, put}
 use Rattle.driver.specs.declared.Asked.{Asked}
 use Rattle.driver.specs.declared.Believed.{Believed}

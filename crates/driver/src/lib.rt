@@ -20,7 +20,7 @@ use words::point_words;
 use words::record_of;
 use words::started_words;
 ghost use mathlib.Core.Path.{_≡_};
-ghost use Rattle.rules.specs.Refusals.{tablesOf, bucketsOf};
+ghost use Rattle.rules.specs.Layout.{bucketsOf, tablesOf};
 ghost use Rattle.driver.specs.Calls.{started, setupIn, restartIn, settingsFrom, hashIn, bodyFrom, referred, referIn, given, shapeFrom, pointIn, plotIn, readIn, writeIn};
 
 // The settings asked for: a zero stands for its default, except the hash kind.

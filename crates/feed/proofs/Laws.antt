@@ -13,7 +13,8 @@ use Rattle.rules.specs.declared.Event.the-variants.{Location, Span, Restart, Se
 use Rattle.rules.specs.Settings.{withDefaults}
 use Rattle.rules.specs.Answers.{Said, refused, gives, Got}
 use Rattle.rules.specs.Events.{readOf, settingsOf}
-use Rattle.rules.specs.Refusals.{Held, laid, fresh, Outcome, refusing, stepOf, referAll, applyOf}
+use Rattle.rules.specs.Layout.{Held, laid, fresh}
+use Rattle.rules.specs.Calls.{Outcome, refusing, stepOf, referAll, applyOf}
 use Rattle.rules.proofs.Tests.{cases, clash}
 use Rattle.rules.proofs.Events.{taken}
 use Rattle.rules.proofs.Calls.{refer-accept, refer-either, setup-either, restart-either}

@@ -8,7 +8,8 @@ use lib.ListN.{length, drop, length-drop}
 use lib.Seq.{drop-drop}
 use Rattle.rules.specs.Answers.{Said, refused, gives, Got}
 use Rattle.rules.specs.Events.{readOf}
-use Rattle.rules.specs.Refusals.{Held, applyOf}
+use Rattle.rules.specs.Layout.{Held}
+use Rattle.rules.specs.Calls.{applyOf}
 use Rattle.rules.proofs.Events.{taken}
 use Rattle.feed.specs.Feed.{End, whole, Feeding, stopped, further, unread, afterReading, feedOf}
 use Rattle.feed.proofs.Laws.{taking, feed-none, feed-reads}

@@ -9,7 +9,7 @@ use lib.Seq.{drop-append-le, drop-drop}
 use borrow.Author.Tests.{ne-eqb}
 use Rattle.rules.specs.Answers.{Said, refused, gives, Got}
 use Rattle.rules.specs.Events.{readOf}
-use Rattle.rules.specs.Refusals.{Held}
+use Rattle.rules.specs.Layout.{Held}
 use Rattle.rules.proofs.Events.{taken}
 use Rattle.feed.specs.Feed.{End, whole, inside, Feeding, further, afterReading, feedOf, onward, resumed}
 use Rattle.rules.proofs.Fronts.{read-more, read-short, read-refused}

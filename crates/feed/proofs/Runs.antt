@@ -6,7 +6,7 @@ use native.Mathlib.Omega.{arith}
 use lib.ListN.{drop}
 use Rattle.rules.specs.Answers.{gives, Got}
 use Rattle.rules.specs.Events.{readOf}
-use Rattle.rules.specs.Refusals.{Held}
+use Rattle.rules.specs.Layout.{Held}
 use Rattle.rules.proofs.Tests.{cases, clash}
 use Rattle.rules.proofs.Events.{taken}
 use Rattle.feed.specs.Feed.{Feeding, further, feedOf}

@@ -2,7 +2,7 @@
 use Prim.Native.Nat.{ℕ}
 use mathlib.Core.Path.{_≡_, refl, sym, ap, _∙_}
 use mathlib.Core.List.{List}
-use Rattle.rules.specs.Refusals.{Held}
+use Rattle.rules.specs.Layout.{Held}
 use Rattle.rules.proofs.Tables.{each-same}
 use Rattle.rules.proofs.Answers.{number-injective}
 use Rattle.feed.specs.declared.Ending.{Ending}

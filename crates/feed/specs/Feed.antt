@@ -6,7 +6,8 @@ use lib.Dec.{eqb}
 use lib.ListN.{length, drop}
 use Rattle.rules.specs.Answers.{Said, refused, gives, number, Got}
 use Rattle.rules.specs.Events.{readOf}
-use Rattle.rules.specs.Refusals.{Held, held, applyOf}
+use Rattle.rules.specs.Layout.{Held, held}
+use Rattle.rules.specs.Calls.{applyOf}
 use Rattle.feed.specs.declared.Ending.{Ending}
 use Rattle.feed.specs.declared.Ending.the-variants as ending
 use Rattle.feed.specs.declared.Fed.{Fed}

@@ -8,7 +8,7 @@ use Rattle.rules.specs.declared.Event.{Event}
 use Rattle.rules.specs.declared.Event.the-variants.{Location, Span, Restart, Setup}
 use Rattle.rules.specs.Answers.{gives, Got}
 use Rattle.rules.specs.Events.{readOf, referencesOf}
-use Rattle.rules.specs.Refusals.{Held}
+use Rattle.rules.specs.Layout.{Held}
 use Rattle.demands.specs.Runs.{Run}
 use Rattle.feed.specs.Feed.{Feeding}
 

@@ -5,7 +5,7 @@ use rules::Refusal;
 use rules::Taken;
 ghost use mathlib.Core.Path.{_≡_};
 ghost use Rattle.rules.specs.Answers.{number};
-ghost use Rattle.rules.specs.Refusals.{held};
+ghost use Rattle.rules.specs.Layout.{held};
 ghost use Rattle.feed.specs.Feed.{unread, feedOf, saidEnding, afterFed};
 
 // Why no more bytes were taken: they end after a whole event, or inside one, or an event was refused.

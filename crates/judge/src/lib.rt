@@ -5,9 +5,10 @@ use rules::Settings;
 use rules::Shape;
 ghost use mathlib.Core.Path.{_≡_};
 ghost use lib.Dec.{ltb};
-ghost use Rattle.rules.specs.Settings.{outOfRange, needed, tooShort, bucketsTooShort};
+ghost use Rattle.rules.specs.Settings.{outOfRange, needed};
 ghost use Rattle.rules.specs.Answers.{number};
-ghost use Rattle.rules.specs.Refusals.{tornRecord, bucketsOf, tablesOf, stale};
+ghost use Rattle.rules.specs.Layout.{bucketsOf, tablesOf};
+ghost use Rattle.rules.specs.Conditions.{bucketsTooShort, tooShort, tornRecord, stale};
 
 // A refusal's number, for who answers in numbers.
 pub fn number_of(why: Refusal) -> u64

@@ -13,14 +13,17 @@ use Rattle.rules.specs.declared.Record.{Record}
 use Rattle.rules.specs.declared.Shape.{Shape}
 use Rattle.rules.specs.declared.Point.{Point}
 use Rattle.rules.specs.declared.Sums.{Sums}
-use Rattle.rules.specs.Settings.{Histogram, needed, bucketsTooShort}
+use Rattle.rules.specs.Settings.{Histogram, needed}
 use Rattle.rules.specs.Curve.{hitsAt, totalOf, curvePoint, plotPoint}
 use Rattle.rules.specs.Answers.{refused, gives}
-use Rattle.rules.specs.Refusals.{profileOf, tornRecord, tornReport, stale, pointOf}
+use Rattle.rules.specs.Layout.{profileOf}
+use Rattle.rules.specs.Conditions.{bucketsTooShort, tornRecord, tornReport, stale}
+use Rattle.rules.specs.Calls.{pointOf}
 use Rattle.rules.proofs.Tests.{cases}
 use Rattle.rules.proofs.Bounds.{whole, buckets-long}
 use Rattle.rules.proofs.Report.{sum-rises, total-high}
-use Rattle.rules.proofs.Calls.{not-both, point-torn, point-short, point-stale, point-number, point-buckets, point-empty, point-given}
+use Rattle.rules.proofs.Order.{not-both}
+use Rattle.rules.proofs.Calls.{point-buckets, point-empty, point-given, point-accepted}
 use Rattle.buckets.specs.Buckets.{reportOf}
 use Rattle.buckets.proofs.Laws.{report-needed}
 use Rattle.points.specs.Points.{fromSums}
@@ -61,7 +64,7 @@ module _ (k : Record) (believed : Shape) (n : ℕ) (g : Histogram) (e : tornReco
     pub from-sums : fromSums (k .settings) n sums ≡ pointOf k believed n g
     from-sums = rw (whole-report .1) (cases (eqb (totalOf (k .threshold) (k .settings .buckets) g) 0)
         (λ z. rw z (sym (point-empty k believed n g e f h no-point (whole-report .0) z)))
-        (λ z. rw z (sym (point-given k believed n g e f h no-point (whole-report .0) z))))
+        (λ z. rw z (sym (point-given k believed n g (record { record-whole = e; buckets-long = f; shape-same = h; on-curve = no-point; report-whole = whole-report .0; some-total = z })))))
 
     pub sums-ordered : sums .hits ≤ sums .total
     sums-ordered = rw (whole-report .1) (sum-rises (k .threshold) g n (needed (k .settings .buckets)) (omega arith))
@@ -75,19 +78,9 @@ pub record InDouble (p : Point) : Type 0 where
   pub total-some : 0 < p .total
 
 pub in-double : (k : Record) (believed : Shape) (n : ℕ) (g : Histogram) (p : Point) → pointOf k believed n g ≡ gives p → InDouble p
-in-double k believed n g p a = cases (tornRecord k)
-    (λ e. absurd (not-both (point-torn k believed n g e) a))
-    (λ e. cases (bucketsTooShort (k .settings) g)
-    (λ f. absurd (not-both (point-short k believed n g e f) a))
-    (λ f. cases (stale believed (k .settings))
-    (λ h. absurd (not-both (point-stale k believed n g e f h) a))
-    (λ h. cases (ltb (k .settings .buckets) n)
-    (λ l. absurd (not-both (point-number k believed n g e f h l) a))
-    (λ l. cases (tornReport (k .numbers .references) (k .threshold) (k .settings .buckets) g)
-    (λ t. absurd (not-both (point-buckets k believed n g e f h l t) a))
-    (λ t. cases (eqb (totalOf (k .threshold) (k .settings .buckets) g) 0)
-    (λ z. absurd (not-both (point-empty k believed n g e f h l t z) a))
-    (λ z. fits e (ltb-false (k .settings .buckets) n l) t (eqb-false (totalOf (k .threshold) (k .settings .buckets) g) 0 z) (same (sym (point-given k believed n g e f h l t z) ∙ a))))))))
+in-double k believed n g p a = let w = point-accepted k believed n g a in
+    fits (w .record-whole) (ltb-false (k .settings .buckets) n (w .on-curve)) (w .report-whole) (eqb-false (totalOf (k .threshold) (k .settings .buckets) g) 0 (w .some-total))
+    (same (sym (point-given k believed n g w) ∙ a))
   where
     same : {a b : Point} → gives a ≡ gives b → a ≡ b
     same q = cc

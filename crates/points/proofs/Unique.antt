@@ -7,7 +7,7 @@ use Rattle.rules.specs.declared.Pointed.{Pointed}
 use Rattle.rules.specs.declared.Plotted.{Plotted}
 use Rattle.rules.specs.Settings.{Histogram}
 use Rattle.rules.specs.Answers.{saidPointed, saidPlotted}
-use Rattle.rules.specs.Refusals.{pointOf, plotOf}
+use Rattle.rules.specs.Calls.{pointOf, plotOf}
 use Rattle.rules.proofs.Answers.{pointed-injective, plotted-injective}
 
 module _ (k : Record) (believed : Shape) (n : ℕ) (g : Histogram) where

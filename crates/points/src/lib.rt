@@ -13,7 +13,8 @@ use rules::Sums;
 ghost use mathlib.Core.Path.{_≡_};
 ghost use Prim.Native.Nat.{_≤_};
 ghost use Rattle.rules.specs.Answers.{saidPointed, saidPlotted};
-ghost use Rattle.rules.specs.Refusals.{bucketsOf, pointOf, plotOf};
+ghost use Rattle.rules.specs.Layout.{bucketsOf};
+ghost use Rattle.rules.specs.Calls.{pointOf, plotOf};
 ghost use Rattle.points.specs.Points.{fromSums};
 
 // The point, from the report's sums.

@@ -8,9 +8,9 @@ use lib.ListN.{length}
 use borrow.Author.Tests.{eqb-false, ltb-false, ne-eqb, le-ltb}
 use Rattle.rules.specs.declared.Settings.{Settings}
 use Rattle.rules.specs.declared.Record.{Record}
-use Rattle.rules.specs.Settings.{P, outOfRange, Histogram, Tables, needed, bucketsTooShort, tooShort}
+use Rattle.rules.specs.Settings.{P, outOfRange, Histogram, Tables, needed}
 use Rattle.rules.specs.Reference.{rescaled}
-use Rattle.rules.specs.Refusals.{tornRecord, tornBucket}
+use Rattle.rules.specs.Conditions.{bucketsTooShort, tooShort, tornRecord, tornBucket}
 use Rattle.rules.proofs.Tests.{neither}
 use Rattle.rules.proofs.Buckets.{Long, rescaled-le}
 

@@ -11,23 +11,24 @@ use Rattle.rules.specs.declared.Settings.{Settings}
 use Rattle.rules.specs.declared.Numbers.{Numbers}
 use Rattle.rules.specs.declared.Record.{Record}
 use Rattle.rules.specs.declared.Shape.{Shape}
+use Rattle.rules.specs.declared.Point.{Point}
 use Rattle.rules.specs.Lists.{has}
-use Rattle.rules.specs.Settings.{withDefaults, outOfRange, Histogram, Tables, needed, bucketsTooShort, tooShort, mostReferences, full}
+use Rattle.rules.specs.Settings.{withDefaults, outOfRange, Histogram, Tables, needed, mostReferences}
 use Rattle.rules.specs.Reference.{Sample, Profile, under, lowered, settled, Reply, skipped, first, again, Stepped, step}
 use Rattle.rules.specs.Curve.{totalOf, curvePoint}
-use Rattle.rules.specs.Answers.{Said, refused, gives}
-use Rattle.rules.specs.Refusals.{Held, sampleOf, hashFor, profileOf, counted, laid, freshTables, freshRecord, tornRecord, tornReport, tornFor, refusing, Beginning, setupOf, restartOf, stepOf, referOf, stale, pointOf}
+use Rattle.rules.specs.Answers.{refused, gives}
+use Rattle.rules.specs.Order.{FirstAt, refusalAt}
+use Rattle.rules.specs.Layout.{Held, sampleOf, hashFor, profileOf, counted, laid, freshTables, freshRecord}
+use Rattle.rules.specs.Conditions.{bucketsTooShort, tooShort, tornRecord, tornReport, tornFor, full, stale}
+use Rattle.rules.specs.Calls.{refusing, Beginning, setupOrder, setupOf, restartOrder, restartOf, stepOf, referOrder, referOf, pointOrder, pointOf}
 use Rattle.rules.proofs.Tests.{cases}
+use Rattle.rules.proofs.Order.{not-both, either, says-refused, leaves-first, says-accepted}
 use Rattle.rules.proofs.Lists.{length-erase}
 use Rattle.rules.proofs.Tables.{over-front, over-length}
 use Rattle.rules.proofs.Buckets.{Long, long-record}
 use Rattle.rules.proofs.Bounds.{Whole, whole, untorn, AllLong, all-long, none-short}
 use Rattle.rules.proofs.Steps.{step-skipped, step-again, step-first, settled-histogram, largest-leaves}
 use Rattle.rules.proofs.Clean.{step-falls}
-
--- nothing is both refused and accepted
-pub not-both : {A : Type 0} {said : Said A} {n : ℕ} {a : A} → said ≡ refused n → said ≡ gives a → ⊥
-not-both e f = let z : _≡_ {A = ℕ} 0 1 = cc in omega arith
 
 -- ---- setup and restart
 
@@ -38,50 +39,50 @@ pub record Begins (s : Settings) (t : Tables) (b : Beginning) : Type 0 where
   pub is : b ≡ record { said = gives (freshRecord s); tables = freshTables s t }
 
 module _ (s : Settings) (t : Tables) where
-  pub setup-range : outOfRange (withDefaults s) ≡ true → setupOf s t ≡ record { said = refused 1; tables = t }
+  setup-refused : (i : ℕ) → FirstAt i (setupOrder s t) → setupOf s t ≡ record { said = refused (refusalAt i (setupOrder s t)); tables = t }
   unfolding setupOf
-  setup-range e = rw e
+  setup-refused n f = let order = setupOrder s t in let set = withDefaults s in
+      λ i. record { said = says-refused n order (freshRecord set) f i; tables = leaves-first n order t (freshTables set t) f i }
 
-  module _ (e : outOfRange (withDefaults s) ≡ false) where
-    pub setup-short : tooShort (withDefaults s) t ≡ true → setupOf s t ≡ record { said = refused 2; tables = t }
-    unfolding setupOf
-    setup-short f = rw (e, f)
+  pub setup-range : outOfRange (withDefaults s) ≡ true → setupOf s t ≡ record { said = refused 1; tables = t }
+  setup-range e = setup-refused 0 e
 
-    pub setup-accept : tooShort (withDefaults s) t ≡ false → setupOf s t ≡ record { said = gives (freshRecord (withDefaults s)); tables = freshTables (withDefaults s) t }
-    unfolding setupOf
-    setup-accept f = rw (e, f)
+  pub setup-short : outOfRange (withDefaults s) ≡ false → tooShort (withDefaults s) t ≡ true → setupOf s t ≡ record { said = refused 2; tables = t }
+  setup-short e f = setup-refused 1 (e, f)
+
+  pub setup-accept : outOfRange (withDefaults s) ≡ false → tooShort (withDefaults s) t ≡ false → setupOf s t ≡ record { said = gives (freshRecord (withDefaults s)); tables = freshTables (withDefaults s) t }
+  unfolding setupOf
+  setup-accept e f = rw (e, f)
 
   -- either nothing refuses it, or it is refused and leaves the tables as they were
   pub setup-either : {C : Type 0} → (Begins (withDefaults s) t (setupOf s t) → C) → ((n : ℕ) → setupOf s t ≡ record { said = refused n; tables = t } → C) → C
-  setup-either accept refuse = cases (outOfRange (withDefaults s))
-      (λ e. refuse 1 (setup-range e))
-      (λ e. cases (tooShort (withDefaults s) t)
-      (λ f. refuse 2 (setup-short e f))
-      (λ f. accept (record { range = e; long = f; is = setup-accept e f })))
+  setup-either accept refuse = either (setupOrder s t)
+      (λ w. accept (record { range = w .0; long = w .1 .0; is = setup-accept (w .0) (w .1 .0) }))
+      (λ i f. refuse (refusalAt i (setupOrder s t)) (setup-refused i f))
 
   pub setup-begins : (k : Record) → setupOf s t .said ≡ gives k → Begins (withDefaults s) t (setupOf s t)
   setup-begins k a = setup-either (λ w. w) (λ n e. absurd (not-both (ap (λ b. b .said) e) a))
 
 module _ (k : Record) (t : Tables) where
-  pub restart-torn : tornRecord k ≡ true → restartOf k t ≡ record { said = refused 3; tables = t }
+  restart-refused : (i : ℕ) → FirstAt i (restartOrder k t) → restartOf k t ≡ record { said = refused (refusalAt i (restartOrder k t)); tables = t }
   unfolding restartOf
-  restart-torn e = rw e
+  restart-refused n f = let order = restartOrder k t in let set = k .settings in
+      λ i. record { said = says-refused n order (freshRecord set) f i; tables = leaves-first n order t (freshTables set t) f i }
 
-  module _ (e : tornRecord k ≡ false) where
-    pub restart-short : tooShort (k .settings) t ≡ true → restartOf k t ≡ record { said = refused 2; tables = t }
-    unfolding restartOf
-    restart-short f = rw (e, f)
+  pub restart-torn : tornRecord k ≡ true → restartOf k t ≡ record { said = refused 3; tables = t }
+  restart-torn e = restart-refused 0 e
 
-    pub restart-accept : tooShort (k .settings) t ≡ false → restartOf k t ≡ record { said = gives (freshRecord (k .settings)); tables = freshTables (k .settings) t }
-    unfolding restartOf
-    restart-accept f = rw (e, f)
+  pub restart-short : tornRecord k ≡ false → tooShort (k .settings) t ≡ true → restartOf k t ≡ record { said = refused 2; tables = t }
+  restart-short e f = restart-refused 1 (e, f)
+
+  pub restart-accept : tornRecord k ≡ false → tooShort (k .settings) t ≡ false → restartOf k t ≡ record { said = gives (freshRecord (k .settings)); tables = freshTables (k .settings) t }
+  unfolding restartOf
+  restart-accept e f = rw (e, f)
 
   pub restart-either : {C : Type 0} → (Begins (k .settings) t (restartOf k t) → C) → ((n : ℕ) → restartOf k t ≡ record { said = refused n; tables = t } → C) → C
-  restart-either accept refuse = cases (tornRecord k)
-      (λ e. refuse 3 (restart-torn e))
-      (λ e. cases (tooShort (k .settings) t)
-      (λ f. refuse 2 (restart-short e f))
-      (λ f. accept (record { range = whole k e .settings-whole; long = f; is = restart-accept e f })))
+  restart-either accept refuse = either (restartOrder k t)
+      (λ w. accept (record { range = whole k (w .0) .settings-whole; long = w .1 .0; is = restart-accept (w .0) (w .1 .0) }))
+      (λ i f. refuse (refusalAt i (restartOrder k t)) (restart-refused i f))
 
   pub restart-begins : (j : Record) → restartOf k t .said ≡ gives j → Begins (k .settings) t (restartOf k t)
   restart-begins j a = restart-either (λ w. w) (λ n e. absurd (not-both (ap (λ b. b .said) e) a))
@@ -96,23 +97,24 @@ pub record Accepted (x : ℕ) (s : Held) : Type 0 where
   pub bucket-sound : tornFor x s ≡ false
 
 module _ (x : ℕ) (s : Held) where
-  pub refer-torn : tornRecord (s .kept) ≡ true → referOf x s ≡ refusing 3 s
+  refer-refused : (i : ℕ) → FirstAt i (referOrder x s) → referOf x s ≡ refusing (refusalAt i (referOrder x s)) s
   unfolding referOf
-  refer-torn e = rw e
+  refer-refused n f = let order = referOrder x s in
+      λ i. record { said = says-refused n order (stepOf x s .reply) f i; left = leaves-first n order s (laid (stepOf x s) s) f i }
+
+  pub refer-torn : tornRecord (s .kept) ≡ true → referOf x s ≡ refusing 3 s
+  refer-torn e = refer-refused 0 e
 
   module _ (e : tornRecord (s .kept) ≡ false) where
     pub refer-short : tooShort (s .kept .settings) (s .tables) ≡ true → referOf x s ≡ refusing 2 s
-    unfolding referOf
-    refer-short f = rw (e, f)
+    refer-short f = refer-refused 1 (e, f)
 
     module _ (f : tooShort (s .kept .settings) (s .tables) ≡ false) where
       pub refer-full : full (s .kept .numbers) ≡ true → referOf x s ≡ refusing 4 s
-      unfolding referOf
-      refer-full g = rw (e, f, g)
+      refer-full g = refer-refused 2 (e, (f, g))
 
       pub refer-bucket : full (s .kept .numbers) ≡ false → tornFor x s ≡ true → referOf x s ≡ refusing 3 s
-      unfolding referOf
-      refer-bucket g h = rw (e, f, g, h)
+      refer-bucket g h = refer-refused 3 (e, (f, (g, h)))
 
   pub refer-accept : Accepted x s → referOf x s ≡ record { said = gives (stepOf x s .reply); left = laid (stepOf x s) s }
   unfolding referOf
@@ -120,54 +122,61 @@ module _ (x : ℕ) (s : Held) where
 
   -- either nothing refuses it, or it is refused and leaves all as it was
   pub refer-either : {C : Type 0} → (Accepted x s → C) → ((n : ℕ) → referOf x s ≡ refusing n s → C) → C
-  refer-either accept refuse = cases (tornRecord (s .kept))
-      (λ e. refuse 3 (refer-torn e))
-      (λ e. cases (tooShort (s .kept .settings) (s .tables))
-      (λ f. refuse 2 (refer-short e f))
-      (λ f. cases (full (s .kept .numbers))
-      (λ g. refuse 4 (refer-full e f g))
-      (λ g. cases (tornFor x s)
-      (λ h. refuse 3 (refer-bucket e f g h))
-      (λ h. accept (record { record-whole = e; tables-long = f; room = g; bucket-sound = h })))))
+  refer-either accept refuse = either (referOrder x s)
+      (λ w. accept (record { record-whole = w .0; tables-long = w .1 .0; room = w .1 .1 .0; bucket-sound = w .1 .1 .1 .0 }))
+      (λ i f. refuse (refusalAt i (referOrder x s)) (refer-refused i f))
 
   pub refer-accepted : (r : Reply) → referOf x s .said ≡ gives r → Accepted x s
   refer-accepted r a = refer-either (λ w. w) (λ n e. absurd (not-both (ap (λ o. o .said) e) a))
 
 -- ---- a point
 
+-- nothing refuses it
+pub record Answered (k : Record) (believed : Shape) (n : ℕ) (g : Histogram) : Type 0 where
+  pub record-whole : tornRecord k ≡ false
+  pub buckets-long : bucketsTooShort (k .settings) g ≡ false
+  pub shape-same : stale believed (k .settings) ≡ false
+  pub on-curve : ltb (k .settings .buckets) n ≡ false
+  pub report-whole : tornReport (k .numbers .references) (k .threshold) (k .settings .buckets) g ≡ false
+  pub some-total : eqb (totalOf (k .threshold) (k .settings .buckets) g) 0 ≡ false
+
 module _ (k : Record) (believed : Shape) (n : ℕ) (g : Histogram) where
-  pub point-torn : tornRecord k ≡ true → pointOf k believed n g ≡ refused 3
+  point-refused : (i : ℕ) → FirstAt i (pointOrder k believed n g) → pointOf k believed n g ≡ refused (refusalAt i (pointOrder k believed n g))
   unfolding pointOf
-  point-torn e = rw e
+  point-refused i f = says-refused i (pointOrder k believed n g) (curvePoint (profileOf (k .settings)) (k .threshold) n g) f
+
+  pub point-torn : tornRecord k ≡ true → pointOf k believed n g ≡ refused 3
+  point-torn e = point-refused 0 e
 
   module _ (e : tornRecord k ≡ false) where
     pub point-short : bucketsTooShort (k .settings) g ≡ true → pointOf k believed n g ≡ refused 2
-    unfolding pointOf
-    point-short f = rw (e, f)
+    point-short f = point-refused 1 (e, f)
 
     module _ (f : bucketsTooShort (k .settings) g ≡ false) where
       pub point-stale : stale believed (k .settings) ≡ true → pointOf k believed n g ≡ refused 5
-      unfolding pointOf
-      point-stale h = rw (e, f, h)
+      point-stale h = point-refused 2 (e, (f, h))
 
       module _ (h : stale believed (k .settings) ≡ false) where
         pub point-number : ltb (k .settings .buckets) n ≡ true → pointOf k believed n g ≡ refused 6
-        unfolding pointOf
-        point-number l = rw (e, f, h, l)
+        point-number l = point-refused 3 (e, (f, (h, l)))
 
         module _ (l : ltb (k .settings .buckets) n ≡ false) where
           pub point-buckets : tornReport (k .numbers .references) (k .threshold) (k .settings .buckets) g ≡ true → pointOf k believed n g ≡ refused 3
-          unfolding pointOf
-          point-buckets r = rw (e, f, h, l, r)
+          point-buckets t = point-refused 4 (e, (f, (h, (l, t))))
 
-          module _ (r : tornReport (k .numbers .references) (k .threshold) (k .settings .buckets) g ≡ false) where
+          module _ (t : tornReport (k .numbers .references) (k .threshold) (k .settings .buckets) g ≡ false) where
             pub point-empty : eqb (totalOf (k .threshold) (k .settings .buckets) g) 0 ≡ true → pointOf k believed n g ≡ refused 9
-            unfolding pointOf
-            point-empty z = rw (e, f, h, l, r, z)
+            point-empty z = point-refused 5 (e, (f, (h, (l, (t, z)))))
 
-            pub point-given : eqb (totalOf (k .threshold) (k .settings .buckets) g) 0 ≡ false → pointOf k believed n g ≡ gives (curvePoint (profileOf (k .settings)) (k .threshold) n g)
-            unfolding pointOf
-            point-given z = rw (e, f, h, l, r, z)
+  pub point-given : Answered k believed n g → pointOf k believed n g ≡ gives (curvePoint (profileOf (k .settings)) (k .threshold) n g)
+  unfolding pointOf
+  point-given a = rw (a .record-whole, a .buckets-long, a .shape-same, a .on-curve, a .report-whole, a .some-total)
+
+  pub point-accepted : {p : Point} → pointOf k believed n g ≡ gives p → Answered k believed n g
+  unfolding pointOf
+  point-accepted e = let w = says-accepted (pointOrder k believed n g) (curvePoint (profileOf (k .settings)) (k .threshold) n g) e in
+      let v = w .1 .1 .1 in
+      record { record-whole = w .0; buckets-long = w .1 .0; shape-same = w .1 .1 .0; on-curve = v .0; report-whole = v .1 .0; some-total = v .1 .1 .0 }
 
 -- ---- what an accepted reference leaves
 

@@ -12,7 +12,7 @@ use Rattle.rules.specs.Lists.{has, upto}
 use Rattle.rules.specs.Settings.{Histogram, Tables, needed}
 use Rattle.rules.specs.Reference.{Sample, Profile, under, scaledDistance, rescaled, countAt, thresholdAt, recordIn, bucketFor, settled, step}
 use Rattle.rules.specs.Curve.{rawTo}
-use Rattle.rules.specs.Refusals.{freshTables}
+use Rattle.rules.specs.Layout.{freshTables}
 use Rattle.rules.proofs.Tests.{cases}
 use Rattle.rules.proofs.Buckets.{Long, long-record, rescaled-le, count-other, threshold-other, count-recorded, threshold-recorded, raw-recorded}
 use Rattle.rules.proofs.Steps.{step-skipped, step-again, step-first, settled-histogram}

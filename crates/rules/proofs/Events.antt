@@ -1,14 +1,14 @@
 -- Laws of reading and writing: which case it is, and what holds of any reading. Assumes nothing.
 use Prim.Native.Nat.{ℕ, _≤_, _<_}
 use mathlib.Core.Path.{_≡_, refl, sym, ap, _∙_}
-use mathlib.Core.Bool.{Bool, true, false, cond}
+use mathlib.Core.Bool.{true, cond}
 use mathlib.Core.List.{List}
 use native.Mathlib.Nat.{zero-add}
 use native.Mathlib.Omega.{arith}
-use lib.Dec.{eqb, leb}
+use lib.Dec.{eqb, ltb}
 use lib.ListN.{length, getD}
 use lib.Seq.{sets, sets-eq}
-use borrow.Author.Tests.{eq-eqb, ne-eqb, le-leb, lt-leb, eqb-true, leb-true, leb-false}
+use borrow.Author.Tests.{eq-eqb, ne-eqb, lt-ltb, le-ltb, eqb-true, eqb-false, ltb-true, ltb-false}
 use Rattle.rules.specs.declared.Event.{Event}
 use Rattle.rules.specs.declared.Event.the-variants.{Location, Span, Restart, Setup}
 use Rattle.rules.specs.declared.Reading.{Reading}
@@ -16,8 +16,9 @@ use Rattle.rules.specs.declared.Reading.the-variants as reading
 use Rattle.rules.specs.declared.Written.the-variants as written
 use Rattle.rules.specs.Lists.{over}
 use Rattle.rules.specs.Answers.{Said, refused, gives, Got, saidReading}
-use Rattle.rules.specs.Events.{numberAt, eventBytes, eventLength, bodyOf, whole, readOf, writeOf, afterWritten}
-use Rattle.rules.proofs.Tests.{cases}
+use Rattle.rules.specs.Events.{numberAt, eventBytes, eventLength, bodyOf, unknown, wholeLength, eventOf, readOf, whole, writeOf, afterWritten}
+use Rattle.rules.proofs.Tests.{cases, neither}
+use Rattle.rules.proofs.Order.{not-both}
 
 -- ---- which case of reading it is
 
@@ -26,12 +27,18 @@ got e n = gives (record { event = e; taken = n })
 
 -- the rule of reading, with k for the first byte
 abbrev pub ofKind : (k : ℕ) → List ℕ → Said Got
-ofKind k s =
-    cond (eqb k 1) (whole 9 (Location (numberAt 8 1 s)) s)
-    (cond (eqb k 2) (whole 13 (Span (numberAt 8 1 s) (numberAt 4 9 s)) s)
-    (cond (eqb k 3) (whole 1 Restart s)
-    (cond (eqb k 4) (whole 18 (Setup (bodyOf s)) s)
-    (refused 8))))
+ofKind k s = cond (unknown k) (refused 8) (whole (wholeLength k) (eventOf k s) s)
+
+-- a first byte is one of the four kinds, or none is
+pub by-kind : {C : Type 0} (k : ℕ) → (k ≡ 1 → C) → (k ≡ 2 → C) → (k ≡ 3 → C) → (k ≡ 4 → C) → (unknown k ≡ true → C) → C
+by-kind k location span restart setup other = cases (unknown k) other
+    (λ u. let n = neither {a = eqb k 0} {b = ltb 4 k} u in cases (eqb k 1)
+    (λ a. location (eqb-true _ _ a))
+    (λ a. cases (eqb k 2)
+    (λ b. span (eqb-true _ _ b))
+    (λ b. cases (eqb k 3)
+    (λ c. restart (eqb-true _ _ c))
+    (λ c. setup (omega (arith, eqb-false k 0 (n .0), ltb-false 4 k (n .1), eqb-false k 1 a, eqb-false k 2 b, eqb-false k 3 c))))))
 
 pub read-empty : (s : List ℕ) → length s ≡ 0 → readOf s ≡ refused 7
 unfolding readOf
@@ -42,28 +49,26 @@ unfolding readOf
 read-kind k s any is = simp (ne-eqb _ _ any, is)
 
 pub read-other : (s : List ℕ) → (length s ≡ 0 → ⊥) → (getD s 0 0 ≡ 1 → ⊥) → (getD s 0 0 ≡ 2 → ⊥) → (getD s 0 0 ≡ 3 → ⊥) → (getD s 0 0 ≡ 4 → ⊥) → readOf s ≡ refused 8
-unfolding readOf
-read-other s any a b c d = simp (ne-eqb _ _ any, ne-eqb _ _ a, ne-eqb _ _ b, ne-eqb _ _ c, ne-eqb _ _ d)
+read-other s any a b c d = by-kind (getD s 0 0) (λ e. absurd (a e)) (λ e. absurd (b e)) (λ e. absurd (c e)) (λ e. absurd (d e))
+    (λ u. read-kind (getD s 0 0) s any refl ∙ simp u)
 
 -- ---- an event with all its bytes there, or with too few
 
 module _ (n : ℕ) (s : List ℕ) where
   pub whole-fits : {e f : Event} → e ≡ f → n ≤ length s → got e n ≡ whole n f s
-  whole-fits is h = simp (le-leb _ _ h) (ap (λ z. got z n) is)
+  whole-fits is h = simp (le-ltb _ _ h) (ap (λ z. got z n) is)
 
   pub whole-short : (e : Event) → length s < n → refused 7 ≡ whole n e s
-  whole-short e h = simp (lt-leb _ _ h)
+  whole-short e h = simp (lt-ltb _ _ h)
 
 -- ---- what holds of any reading
 
-by-cond : {A : Type 0} (P : A → Type 0) (b : Bool) {x y : A} → (b ≡ true → P x) → (b ≡ false → P y) → P (cond b x y)
-by-cond P true f g = f refl
-by-cond P false f g = g refl
-
 -- to show P of a reading, show it of refusals, and of each kind of event where all its bytes are there
 module _ (P : Said Got → Type 0) (s : List ℕ) (none : (n : ℕ) → P (refused n)) where
-  by-whole : (k n : ℕ) (e : Event) {other : Said Got} → (getD s 0 0 ≡ k → n ≤ length s → P (got e n)) → P other → P (cond (eqb (getD s 0 0) k) (whole n e s) other)
-  by-whole k n e f g = by-cond P (eqb (getD s 0 0) k) (λ is. by-cond P (leb n (length s)) (λ h. f (eqb-true _ _ is) (leb-true _ _ h)) (λ h. none 7)) (λ is. g)
+  by-whole : (n : ℕ) (e : Event) → readOf s ≡ whole n e s → (n ≤ length s → P (got e n)) → P (readOf s)
+  by-whole n e is f = cases (ltb (length s) n)
+      (λ h. rw (is, h) (none 7))
+      (λ h. rw (is, h) (f (ltb-false _ _ h)))
 
   pub by-reading :
       (getD s 0 0 ≡ 1 → 9 ≤ length s → P (got (Location (numberAt 8 1 s)) 9))
@@ -71,10 +76,14 @@ module _ (P : Said Got → Type 0) (s : List ℕ) (none : (n : ℕ) → P (refus
       → (getD s 0 0 ≡ 3 → 1 ≤ length s → P (got Restart 1))
       → (getD s 0 0 ≡ 4 → 18 ≤ length s → P (got (Setup (bodyOf s)) 18))
       → P (readOf s)
-  unfolding readOf
-  by-reading location span restart setup =
-      by-cond P (eqb (length s) 0) (λ h. none 7)
-      (λ h. by-whole 1 9 _ location (by-whole 2 13 _ span (by-whole 3 1 _ restart (by-whole 4 18 _ setup (none 8)))))
+  by-reading location span restart setup = cases (eqb (length s) 0)
+      (λ z. rw (read-empty s (eqb-true _ _ z)) (none 7))
+      (λ z. let any = eqb-false _ _ z in by-kind (getD s 0 0)
+      (λ k. by-whole 9 _ (read-kind 1 s any k) (location k))
+      (λ k. by-whole 13 _ (read-kind 2 s any k) (span k))
+      (λ k. by-whole 1 _ (read-kind 3 s any k) (restart k))
+      (λ k. by-whole 18 _ (read-kind 4 s any k) (setup k))
+      (λ u. rw (read-kind (getD s 0 0) s any refl, u) (none 8)))
 
 -- what is taken is something, and lies within the bytes
 abbrev Within : List ℕ → Said Got → Type 0
@@ -93,11 +102,11 @@ got-taken s said is = taken s (sym said ∙ ap saidReading is)
 module _ (e : Event) (buffer : List ℕ) where
   pub write-short : length buffer < eventLength e → writeOf e buffer ≡ record { said = refused 2; buffer = buffer }
   unfolding writeOf
-  write-short h = simp (lt-leb _ _ h)
+  write-short h = simp (lt-ltb _ _ h)
 
   pub write-fits : eventLength e ≤ length buffer → writeOf e buffer ≡ record { said = gives (eventLength e); buffer = over (eventBytes e) buffer }
   unfolding writeOf
-  write-fits h = simp (le-leb _ _ h)
+  write-fits h = simp (le-ltb _ _ h)
 
   -- the event's bytes, put one by one from the front
   pub write-puts : eventLength e ≤ length buffer → writeOf e buffer ≡ record { said = gives (eventLength e); buffer = sets buffer 0 (eventBytes e) }
@@ -111,6 +120,6 @@ module _ (e : Event) (buffer : List ℕ) where
 
   -- where something was filled it is the event, over the front of the buffer
   pub write-filled : (n : ℕ) (after : List ℕ) → afterWritten (written.Filled n) after ≡ writeOf e buffer → (n ≡ eventLength e) × (after ≡ over (eventBytes e) buffer)
-  write-filled n after w = cases (leb (eventLength e) (length buffer))
-      (λ h. let k = w ∙ write-fits (leb-true _ _ h) in ((let q = ap (λ z. z .said) k in cc), ap (λ z. z .buffer) k))
-      (λ h. absurd (let k = ap (λ z. z .said) (w ∙ write-short (leb-false _ _ h)) in let z : _≡_ {A = ℕ} 0 1 = cc in omega arith))
+  write-filled n after w = cases (ltb (length buffer) (eventLength e))
+      (λ h. absurd (not-both (ap (λ z. z .said) (w ∙ write-short (ltb-true _ _ h))) refl))
+      (λ h. let k = w ∙ write-fits (ltb-false _ _ h) in ((let q = ap (λ z. z .said) k in cc), ap (λ z. z .buffer) k))

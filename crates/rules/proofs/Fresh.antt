@@ -9,7 +9,7 @@ use Rattle.rules.specs.Lists.{over}
 use Rattle.rules.specs.Settings.{P, Histogram, Tables, needed}
 use Rattle.rules.specs.Reference.{countAt, thresholdAt}
 use Rattle.rules.specs.Curve.{rawTo}
-use Rattle.rules.specs.Refusals.{freshTables, profileOf}
+use Rattle.rules.specs.Layout.{profileOf, freshTables}
 use Rattle.rules.proofs.Tables.{over-length}
 use Rattle.rules.proofs.Buckets.{Long}
 use Rattle.rules.proofs.FullRate.{Exact}

@@ -1,19 +1,20 @@
 -- Reading looks only at the bytes that it takes. Assumes nothing.
 use Prim.Native.Nat.{ℕ, zero, suc, _+_, _≤_, _<_}
 use mathlib.Core.Path.{_≡_, refl, sym, ap, _∙_}
-use mathlib.Core.Bool.{true}
+use mathlib.Core.Bool.{false}
 use mathlib.Core.List.{List, [], _∷_, _++_}
 use native.Mathlib.Nat.{zero-add, suc-add}
 use native.Mathlib.Omega.{arith}
-use lib.Dec.{eqb, leb}
+use lib.Dec.{ltb}
 use lib.ListN.{length, getD, take, drop, length-take}
 use lib.Seq.{getD-take, take-append-le, take-nil, take-take}
-use borrow.Author.Tests.{le-leb, leb-false}
+use borrow.Author.Tests.{le-ltb, ltb-true}
 use Rattle.rules.specs.declared.Event.{Event}
 use Rattle.rules.specs.Answers.{Said, refused, gives, Got}
 use Rattle.rules.specs.Events.{numberAt, whole, readOf}
 use Rattle.rules.proofs.Tests.{cases}
-use Rattle.rules.proofs.Events.{ofKind, read-empty, read-kind, by-reading, taken}
+use Rattle.rules.proofs.Order.{not-both}
+use Rattle.rules.proofs.Events.{ofKind, by-kind, read-empty, read-kind, by-reading, taken}
 
 -- the middle of a list, either way round
 pub drop-take : (n m : ℕ) (l : List ℕ) → drop n (take (n + m) l) ≡ take m (drop n l)
@@ -41,8 +42,8 @@ module _ (s t : List ℕ) where
     kind-same k some is = read-kind k t (λ z. omega (arith, there))
         (sym (getD-take m t 0 0 some) ∙ ap (λ l. getD l 0 0) (sym same) ∙ getD-take m s 0 0 some ∙ is)
 
-    all-there : leb m (length t) ≡ true
-    all-there = le-leb _ _ there
+    all-there : ltb (length t) m ≡ false
+    all-there = le-ltb _ _ there
 
   abbrev Same : Said Got → Type 0
   Same (refused n) = Unit {0}
@@ -75,20 +76,17 @@ read-front n s {g} h l = read-same s (take n s) h (sym (take-take (g .taken) n s
 -- ---- a refusal: 7 where there are too few bytes, or 8, whatever stands behind
 
 whole-refused : (n : ℕ) (e : Event) (s : List ℕ) {m : ℕ} → whole n e s ≡ refused m → (m ≡ 7) × (length s < n)
-whole-refused n e s {m} is = cases (leb n (length s))
-    (λ h. absurd (let q = simp h at is in let z : _≡_ {A = ℕ} 0 1 = cc in omega arith))
-    (λ h. ((let q = simp h at is in cc), leb-false _ _ h))
+whole-refused n e s {m} is = cases (ltb (length s) n)
+    (λ h. ((let q = simp h at is in cc), ltb-true _ _ h))
+    (λ h. absurd (not-both {a = record { event = e; taken = n }} is (simp h)))
 
 kind-refused : {C : Type 0} (k : ℕ) (s : List ℕ) {m : ℕ} → ofKind k s ≡ refused m → ((m ≡ 7) × (length s < 18) → C) → (m ≡ 8 → ((t : List ℕ) → ofKind k t ≡ refused 8) → C) → C
-kind-refused {C} k s {m} is short other = cases (eqb k 1)
-    (λ a. too-few 9 _ (omega arith) (simp a at is))
-    (λ a. cases (eqb k 2)
-    (λ b. too-few 13 _ (omega arith) (simp (a, b) at is))
-    (λ b. cases (eqb k 3)
-    (λ c. too-few 1 _ (omega arith) (simp (a, b, c) at is))
-    (λ c. cases (eqb k 4)
-    (λ d. too-few 18 _ (omega arith) (simp (a, b, c, d) at is))
-    (λ d. other (let q = simp (a, b, c, d) at is in cc) (λ t. simp (a, b, c, d))))))
+kind-refused {C} k s {m} is short other = by-kind k
+    (λ e. too-few 9 _ (omega arith) (rw e at is))
+    (λ e. too-few 13 _ (omega arith) (rw e at is))
+    (λ e. too-few 1 _ (omega arith) (rw e at is))
+    (λ e. too-few 18 _ (omega arith) (rw e at is))
+    (λ u. other (let q = simp u at is in cc) (λ t. simp u))
   where
     too-few : (n : ℕ) (e : Event) → n ≤ 18 → whole n e s ≡ refused m → C
     too-few n e h q = let w = whole-refused n e s q in short (w .0, omega (arith, w .1))

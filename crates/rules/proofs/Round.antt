@@ -1,13 +1,13 @@
 -- What was written is read back, with any bytes behind it. Assumes nothing.
 use Prim.Native.Nat.{ℕ, _+_, _≤_, _<_, _^_}
 use mathlib.Core.Path.{_≡_, refl, sym, _∙_}
-use mathlib.Core.Bool.{true}
+use mathlib.Core.Bool.{false}
 use mathlib.Core.List.{List, _∷_, _++_}
 use native.Mathlib.Omega.{arith}
-use lib.Dec.{leb}
+use lib.Dec.{ltb}
 use lib.ListN.{length, getD, drop}
 use lib.Seq.{drop-append-seam, drop-cons}
-use borrow.Author.Tests.{le-leb}
+use borrow.Author.Tests.{le-ltb}
 use Rattle.rules.specs.declared.Event.{Event}
 use Rattle.rules.specs.declared.Event.the-variants.{Location, Span, Restart, Setup}
 use Rattle.rules.specs.declared.Reading.{Reading}
@@ -19,8 +19,8 @@ use Rattle.rules.proofs.Answers.{reading-injective}
 use Rattle.rules.proofs.LittleEndian.{number-bytes, number-below, bytes-number}
 use Rattle.rules.proofs.Events.{got, read-kind, by-reading, write-filled}
 
-there : (n : ℕ) (e : Event) (rest : List ℕ) → n ≤ length (eventBytes e ++ rest) → leb n (length (eventBytes e ++ rest)) ≡ true
-there n e rest h = le-leb _ _ h
+there : (n : ℕ) (e : Event) (rest : List ℕ) → n ≤ length (eventBytes e ++ rest) → ltb (length (eventBytes e ++ rest)) n ≡ false
+there n e rest h = le-ltb _ _ h
 
 -- reading an event's bytes gives the event with its length
 pub round : (e : Event) (rest : List ℕ) → Fits e → readOf (eventBytes e ++ rest) ≡ got e (eventLength e)

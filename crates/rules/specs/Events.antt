@@ -1,16 +1,18 @@
 -- Document 01, "Trace events". Assumes nothing.
 use Prim.Native.Nat.{ℕ, zero, suc, _+_, _*_, _/_, _%_, _^_, _<_}
-use mathlib.Core.Bool.{cond}
+use mathlib.Core.Bool.{Bool, cond, _||_}
 use mathlib.Core.List.{List, [], _∷_, _++_}
-use lib.Dec.{eqb, leb}
+use lib.Dec.{eqb, ltb}
 use lib.ListN.{length, getD, drop}
 use Rattle.rules.specs.declared.Settings.{Settings}
 use Rattle.rules.specs.declared.Body.{Body}
+use Rattle.rules.specs.declared.Refusal.the-variants as refusal
 use Rattle.rules.specs.declared.Written.{Written}
 use Rattle.rules.specs.declared.Event.{Event}
 use Rattle.rules.specs.declared.Event.the-variants.{Location, Span, Restart, Setup}
 use Rattle.rules.specs.Lists.{over}
 use Rattle.rules.specs.Answers.{Said, refused, gives, Got, saidWritten}
+use Rattle.rules.specs.Order.{Judged, _when_, says, leaves}
 
 -- a number as n bytes, little-endian
 abbrev pub bytesOf : (n x : ℕ) → List ℕ
@@ -59,19 +61,35 @@ referencesOf (Span offset length) = cond (eqb length 0) [] (offset / 4096 ∷ []
 referencesOf Restart = []
 referencesOf (Setup b) = []
 
--- the event, where all its bytes are there
-abbrev pub whole : (n : ℕ) → Event → List ℕ → Said Got
-whole n e s = cond (leb n (length s)) (gives (record { event = e; taken = n })) (refused 7)
+-- no kind of event
+abbrev pub unknown : (kind : ℕ) → Bool
+unknown kind = eqb kind 0 || ltb 4 kind
+
+-- how many bytes an event of a kind takes
+abbrev pub wholeLength : (kind : ℕ) → ℕ
+wholeLength kind = cond (eqb kind 1) 9 (cond (eqb kind 2) 13 (cond (eqb kind 3) 1 18))
+
+-- the event of a kind that stands in the bytes
+abbrev pub eventOf : (kind : ℕ) → List ℕ → Event
+eventOf kind s =
+    cond (eqb kind 1) (Location (numberAt 8 1 s))
+    (cond (eqb kind 2) (Span (numberAt 8 1 s) (numberAt 4 9 s))
+    (cond (eqb kind 3) Restart (Setup (bodyOf s))))
 
 -- reading: 7 if empty, 8, 7
+abbrev pub readOrder : List ℕ → List Judged
+readOrder s =
+    let kind = getD s 0 0 in
+    (refusal.Short when eqb (length s) 0) ∷ (refusal.Kind when unknown kind) ∷ (refusal.Short when ltb (length s) (wholeLength kind)) ∷ []
+
 unfoldable pub readOf : List ℕ → Said Got
 readOf s =
-    cond (eqb (length s) 0) (refused 7)
-    (cond (eqb (getD s 0 0) 1) (whole 9 (Location (numberAt 8 1 s)) s)
-    (cond (eqb (getD s 0 0) 2) (whole 13 (Span (numberAt 8 1 s) (numberAt 4 9 s)) s)
-    (cond (eqb (getD s 0 0) 3) (whole 1 Restart s)
-    (cond (eqb (getD s 0 0) 4) (whole 18 (Setup (bodyOf s)) s)
-    (refused 8)))))
+    let kind = getD s 0 0 in
+    says (readOrder s) (record { event = eventOf kind s; taken = wholeLength kind })
+
+-- an event of n bytes, where they are all there
+abbrev pub whole : (n : ℕ) → Event → List ℕ → Said Got
+whole n e s = says ((refusal.Short when ltb (length s) n) ∷ []) (record { event = e; taken = n })
 
 -- what is unread: what follows the first event, or all when that is refused
 abbrev pub unreadAfter : Said Got → List ℕ → List ℕ
@@ -87,11 +105,13 @@ pub record Filling : Type 0 where
   pub buffer : List ℕ
 
 -- writing: 2; else exactly the event's length from the front
+abbrev pub writeOrder : Event → List ℕ → List Judged
+writeOrder e buffer = (refusal.Tables when ltb (length buffer) (eventLength e)) ∷ []
+
 unfoldable pub writeOf : Event → List ℕ → Filling
 writeOf e buffer =
-    cond (leb (eventLength e) (length buffer))
-    (record { said = gives (eventLength e); buffer = over (eventBytes e) buffer })
-    (record { said = refused 2; buffer = buffer })
+    let order = writeOrder e buffer in
+    record { said = says order (eventLength e); buffer = leaves order buffer (over (eventBytes e) buffer) }
 
 abbrev pub afterWritten : Written → List ℕ → Filling
 afterWritten r buffer = record { said = saidWritten r; buffer = buffer }

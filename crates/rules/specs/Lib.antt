@@ -3,7 +3,10 @@ pub mod Settings
 pub mod Reference
 pub mod Curve
 pub mod Answers
+pub mod Order
 pub mod Events
-pub mod Refusals
+pub mod Layout
+pub mod Conditions
+pub mod Calls
 pub mod History
 pub mod Cache

@@ -4,10 +4,8 @@ use mathlib.Core.Bool.{Bool, cond, _||_}
 use mathlib.Core.List.{List}
 use lib.Bits.{bitXor}
 use lib.Dec.{eqb, ltb}
-use lib.ListN.{length}
 use Rattle.rules.specs.declared.Hashing.{Hashing}
 use Rattle.rules.specs.declared.Settings.{Settings}
-use Rattle.rules.specs.declared.Numbers.{Numbers}
 
 abbrev pub P : ℕ
 P = 2 ^ 24
@@ -69,17 +67,6 @@ pub record Tables : Type 0 where
 abbrev pub needed : (buckets : ℕ) → ℕ
 needed buckets = buckets + 2
 
--- a bucket table is shorter than needed
-abbrev pub bucketsTooShort : Settings → Histogram → Bool
-bucketsTooShort s g = ltb (length (g .counts)) (needed (s .buckets)) || ltb (length (g .thresholds)) (needed (s .buckets))
-
--- a lent table is shorter than needed
-abbrev pub tooShort : Settings → Tables → Bool
-tooShort s t = ltb (length (t .locations)) (s .limit) || bucketsTooShort s (t .histogram)
-
 -- at most 2^32 - 1 references are made in a run
 abbrev pub mostReferences : ℕ
 mostReferences = 2 ^ 32 - 1
-
-abbrev pub full : Numbers → Bool
-full n = eqb (n .references) mostReferences

@@ -6,9 +6,11 @@ use mathlib.Core.List.{List}
 use Rattle.rules.specs.declared.Settings.{Settings}
 use Rattle.rules.specs.declared.Record.{Record}
 use Rattle.rules.specs.declared.Started.the-variants as started
-use Rattle.rules.specs.Settings.{Histogram, Tables, withDefaults, outOfRange, tooShort}
+use Rattle.rules.specs.Settings.{Histogram, Tables, withDefaults, outOfRange}
 use Rattle.rules.specs.Answers.{refused, gives}
-use Rattle.rules.specs.Refusals.{bucketsOf, freshRecord, freshTables, afterStarted, setupOf}
+use Rattle.rules.specs.Layout.{bucketsOf, freshTables, freshRecord}
+use Rattle.rules.specs.Conditions.{tooShort}
+use Rattle.rules.specs.Calls.{setupOf, afterStarted}
 use Rattle.rules.proofs.Calls.{setup-range, setup-short, setup-accept}
 
 -- a fresh start was made

@@ -3,7 +3,7 @@ use Prim.Native.Nat.{ℕ}
 use mathlib.Core.Path.{_≡_, sym, ap, _∙_}
 use mathlib.Core.List.{List}
 use Rattle.rules.specs.declared.Started.{Started}
-use Rattle.rules.specs.Refusals.{Beginning, afterStarted}
+use Rattle.rules.specs.Calls.{Beginning, afterStarted}
 use Rattle.rules.proofs.Tables.{each-same}
 use Rattle.rules.proofs.Answers.{started-injective}
 

@@ -9,8 +9,10 @@ ghost use mathlib.Core.Bool.{false};
 ghost use Prim.Native.Nat.{_≤_};
 ghost use lib.ListN.{length, replicate};
 ghost use Rattle.rules.specs.Lists.{over};
-ghost use Rattle.rules.specs.Settings.{withDefaults, orDefault, outOfRange, bucketsTooShort};
-ghost use Rattle.rules.specs.Refusals.{freshBuckets, freshRecord, bucketsOf, tablesOf, afterStarted, setupOf, restartOf};
+ghost use Rattle.rules.specs.Settings.{withDefaults, orDefault, outOfRange};
+ghost use Rattle.rules.specs.Layout.{bucketsOf, tablesOf, freshBuckets, freshRecord};
+ghost use Rattle.rules.specs.Conditions.{bucketsTooShort};
+ghost use Rattle.rules.specs.Calls.{setupOf, restartOf, afterStarted};
 
 fn or_default(setting: u64, default: u64) -> u64
     ensures { λ r. ⌜ r ≡ orDefault default setting ⌝ }

@@ -12,12 +12,12 @@ use borrow.Author.Tests.{lt-ltb, le-ltb, ltb-false, leb-true, leb-false}
 use Rattle.rules.specs.declared.Record.{Record}
 use Rattle.rules.specs.declared.Point.{Point}
 use Rattle.rules.specs.Lists.{over}
-use Rattle.rules.specs.Settings.{Histogram, bucketsTooShort}
+use Rattle.rules.specs.Settings.{Histogram}
 use Rattle.rules.specs.Answers.{gives}
-use Rattle.rules.specs.Refusals.{tornRecord, ownShape, ownPoint}
+use Rattle.rules.specs.Calls.{ownShape, ownPoint}
 use Rattle.rules.proofs.Tests.{cases, neither}
 use Rattle.rules.proofs.Bounds.{buckets-long}
-use Rattle.rules.proofs.Calls.{not-both, point-torn, point-short}
+use Rattle.rules.proofs.Calls.{point-accepted}
 use Rattle.io.specs.Digits.{digits, Fewest}
 use Rattle.text.specs.Text.{decimalMost, decimal, Adds, placed, frontOr}
 
@@ -71,11 +71,7 @@ room buffer counts e =
 
 -- a point that is answered has tables long enough
 pub point-needed : (k : Record) (n : ℕ) (g : Histogram) {p : Point} → ownPoint k n g ≡ gives p → k .settings .buckets + 2 ≤ length (g .counts)
-point-needed k n g e = cases (tornRecord k)
-    (λ t. absurd (not-both (point-torn k (ownShape k) n g t) e))
-    (λ t. cases (bucketsTooShort (k .settings) g)
-    (λ u. absurd (not-both (point-short k (ownShape k) n g t u) e))
-    (λ u. buckets-long (k .settings) g u .counts-long))
+point-needed k n g e = buckets-long (k .settings) g (point-accepted k (ownShape k) n g e .buckets-long) .counts-long
 
 -- ---- numbers
 

@@ -10,7 +10,7 @@ use Rattle.rules.specs.declared.Point.{Point}
 use Rattle.rules.specs.Lists.{over}
 use Rattle.rules.specs.Settings.{Histogram}
 use Rattle.rules.specs.Answers.{Said, refused, gives}
-use Rattle.rules.specs.Refusals.{ownPoint}
+use Rattle.rules.specs.Calls.{ownPoint}
 
 -- ---- numbers
 

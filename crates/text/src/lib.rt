@@ -7,7 +7,8 @@ ghost use mathlib.Core.Path.{_≡_};
 ghost use mathlib.Core.List.{_++_};
 ghost use Prim.Native.Nat.{_+_, _≤_};
 ghost use lib.ListN.{length};
-ghost use Rattle.rules.specs.Refusals.{bucketsOf, ownPoint};
+ghost use Rattle.rules.specs.Layout.{bucketsOf};
+ghost use Rattle.rules.specs.Calls.{ownPoint};
 ghost use Rattle.rules.specs.Answers.{saidPointed};
 ghost use Rattle.text.specs.Text.{decimal, newline, firstLine, pointLine, lineOf, linesTo, pointsOr, Adds, placed, curveIn, refusedIn};
 

@@ -13,10 +13,12 @@ use Rattle.rules.specs.declared.Record.{Record}
 use Rattle.rules.specs.declared.Refusal.the-variants as refusal
 use Rattle.rules.specs.declared.Answer.the-variants as answer
 use Rattle.rules.specs.Lists.{over}
-use Rattle.rules.specs.Settings.{needed, tooShort, mostReferences, full}
+use Rattle.rules.specs.Settings.{needed, mostReferences}
 use Rattle.rules.specs.Reference.{firstPlace, toFront, under, recordIn, bucketFor, settled, sampled, again, first, skipped}
 use Rattle.rules.specs.Answers.{refused, gives}
-use Rattle.rules.specs.Refusals.{Held, bucketsOf, tablesOf, held, tornRecord, liveOf, sampleOf, hashFor, profileOf, laid, tornAt, tornFor, referOf, afterReferred}
+use Rattle.rules.specs.Layout.{Held, bucketsOf, tablesOf, held, liveOf, sampleOf, hashFor, profileOf, laid}
+use Rattle.rules.specs.Conditions.{tooShort, tornRecord, tornAt, tornFor, full}
+use Rattle.rules.specs.Calls.{referOf, afterReferred}
 use Rattle.rules.proofs.Tests.{cases, clash}
 use Rattle.rules.proofs.Tables.{over-same}
 use Rattle.rules.proofs.Places.{front-length}

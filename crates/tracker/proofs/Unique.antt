@@ -4,7 +4,7 @@ use mathlib.Core.Path.{_≡_, sym, ap, _∙_}
 use mathlib.Core.List.{List}
 use Rattle.rules.specs.declared.Referred.{Referred}
 use Rattle.rules.specs.Reference.{Reply}
-use Rattle.rules.specs.Refusals.{Outcome, afterReferred}
+use Rattle.rules.specs.Calls.{Outcome, afterReferred}
 use Rattle.rules.proofs.Tables.{each-same}
 use Rattle.rules.proofs.Answers.{answer-injective}
 

@@ -7,9 +7,9 @@ use lib.Dec.{ltb}
 use Rattle.rules.specs.declared.Record.{Record}
 use Rattle.rules.specs.declared.Referred.{Referred}
 use Rattle.rules.specs.declared.Answer.{Answer}
-use Rattle.rules.specs.Settings.{tooShort, full}
 use Rattle.rules.specs.Reference.{under}
-use Rattle.rules.specs.Refusals.{Held, hashFor, tornRecord}
+use Rattle.rules.specs.Layout.{Held, hashFor}
+use Rattle.rules.specs.Conditions.{tooShort, tornRecord, full}
 use Rattle.live.specs.Live.{Lowering, movedToFront, lowering, loweringOf}
 
 abbrev pub referredOf : Record → Answer → Referred

@@ -11,7 +11,8 @@ ghost use mathlib.Core.Path.{_≡_};
 ghost use mathlib.Core.Option.{some, none};
 ghost use Prim.Native.Nat.{_<_, _≤_};
 ghost use Rattle.rules.specs.Reference.{widths, firstPlace, scaledDistance};
-ghost use Rattle.rules.specs.Refusals.{held, liveOf, afterReferred, referOf};
+ghost use Rattle.rules.specs.Layout.{held, liveOf};
+ghost use Rattle.rules.specs.Calls.{referOf, afterReferred};
 ghost use Rattle.tracker.specs.Tracker.{referredOf, countedIn, enteredOf, Samples};
 ghost use Rattle.live.specs.Live.{lowering};
 

@@ -4,7 +4,7 @@ use Prim.Native.Nat.{_≤_, _-_}
 use native.Mathlib.Omega.{arith}
 use borrow.Author.Needs.{needs}
 use lib.ListN.{getD}
-use Rattle.rules.specs.Refusals.{bucketsOf}
+use Rattle.rules.specs.Layout.{bucketsOf}
 use Rattle.buckets.specs.Buckets.{SoFar}
 use Rattle.rules.proofs.Bounds.{Sound, sound, product-fits, sound-rescaled}
 use Rattle.buckets.proofs.Laws.{torn-here, torn-over, so-far-more}

@@ -1,5 +1,5 @@
 use mathlib.Core.Path.{refl}
-use Rattle.rules.specs.Refusals.{tornBucket}
+use Rattle.rules.specs.Conditions.{tornBucket}
 use borrow.Author.Needs.{needs}
 use Rattle.buckets.proofs.torn.Statement.{statement}
 use Rattle.buckets.proofs.torn.Tie as tie

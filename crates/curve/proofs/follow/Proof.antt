@@ -3,7 +3,7 @@ use native.Mathlib.Omega.{arith}
 use Prim.Native.Nat.{_+_, _<_, _^_}
 use mathlib.Core.Path.{_≡_, refl, sym, _∙_}
 use lib.ListN.{length, take}
-use Rattle.rules.specs.Refusals.{held}
+use Rattle.rules.specs.Layout.{held}
 use Rattle.curve.specs.Program.{Follows}
 use Rattle.curve.proofs.Input.{follows-none}
 use Rattle.curve.proofs.follow.Statement.{statement}

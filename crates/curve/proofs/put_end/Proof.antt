@@ -1,4 +1,4 @@
-use Rattle.rules.specs.Refusals.{bucketsOf}
+use Rattle.rules.specs.Layout.{bucketsOf}
 use native.Mathlib.Omega.{arith}
 use borrow.Author.Tests.{lt-ltb, le-ltb}
 use Rattle.curve.proofs.Input.{refused-stands, curve-stands}

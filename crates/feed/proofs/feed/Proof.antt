@@ -6,7 +6,7 @@ use lib.ListN.{length, drop}
 use denote.Ref.{now}
 use Rattle.rules.specs.Answers.{gives, Got, saidReading}
 use Rattle.rules.specs.Events.{readOf}
-use Rattle.rules.specs.Refusals.{held}
+use Rattle.rules.specs.Layout.{held}
 use Rattle.trace.proofs.Laws.{from-place}
 use Rattle.feed.proofs.Loop.{Going, going-none, at-end, at-unread, ahead, at-refused, goes-on}
 use Rattle.feed.proofs.feed.Statement.{statement}

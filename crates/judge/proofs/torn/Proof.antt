@@ -1,4 +1,4 @@
-use Rattle.rules.specs.Refusals.{tornRecord}
+use Rattle.rules.specs.Conditions.{tornRecord}
 use borrow.Author.Needs.{needs}
 use Rattle.judge.proofs.torn.Statement.{statement}
 use Rattle.judge.proofs.torn.Tie as tie

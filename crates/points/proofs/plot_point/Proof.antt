@@ -3,7 +3,7 @@ use lib.Dec.{le→leb}
 use lib.Ieee.{inFloat, ofInt}
 use Rattle.rules.specs.Curve.{plotPoint}
 use Rattle.rules.specs.Answers.{gives, saidPointed}
-use Rattle.rules.specs.Refusals.{onGives}
+use Rattle.rules.specs.Calls.{onGives}
 use Rattle.points.proofs.CurvePoints.{in-double, doubles}
 use borrow.Author.Needs.{needs}
 use Rattle.points.proofs.plot_point.Statement.{statement}

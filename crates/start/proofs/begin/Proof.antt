@@ -1,4 +1,4 @@
-use Rattle.rules.specs.Refusals.{bucketsOf}
+use Rattle.rules.specs.Layout.{bucketsOf}
 use native.Mathlib.Omega.{arith}
 use mathlib.Core.Path.{refl}
 use Rattle.rules.proofs.Bounds.{in-range, buckets-long}

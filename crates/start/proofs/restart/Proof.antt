@@ -1,6 +1,6 @@
 use Rattle.start.proofs.Laws.{started-is}
 use mathlib.Core.Path.{sym, _∙_}
-use Rattle.rules.specs.Refusals.{tablesOf}
+use Rattle.rules.specs.Layout.{tablesOf}
 use Rattle.rules.proofs.Bounds.{whole, buckets-none-short}
 use Rattle.rules.proofs.Calls.{restart-torn, restart-short, restart-accept}
 use borrow.Author.Needs.{needs}

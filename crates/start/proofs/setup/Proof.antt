@@ -1,6 +1,6 @@
 use mathlib.Core.Path.{sym, _∙_}
 use Rattle.start.proofs.Laws.{started-is, setup-no-range, setup-no-room, setup-made}
-use Rattle.rules.specs.Refusals.{tablesOf}
+use Rattle.rules.specs.Layout.{tablesOf}
 use Rattle.rules.proofs.Bounds.{buckets-none-short}
 use borrow.Author.Needs.{needs}
 use Rattle.start.proofs.setup.Statement.{statement}

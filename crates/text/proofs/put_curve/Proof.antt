@@ -1,6 +1,6 @@
 use mathlib.Core.Path.{_∙_}
 use native.Mathlib.Omega.{arith}
-use Rattle.rules.specs.Refusals.{bucketsOf}
+use Rattle.rules.specs.Layout.{bucketsOf}
 use Rattle.text.specs.Text.{curveText}
 use Rattle.text.proofs.Laws.{adds-then, adds-front, front-none, room}
 use Rattle.text.proofs.put_curve.Statement.{statement}

@@ -4,7 +4,7 @@ use native.Mathlib.Numerals.{add-one}
 use Prim.Native.Nat.{_+_, _-_, _*_, _≤_}
 use mathlib.Core.Path.{_≡_, refl, _∙_}
 use lib.ListN.{length}
-use Rattle.rules.specs.Refusals.{bucketsOf}
+use Rattle.rules.specs.Layout.{bucketsOf}
 use Rattle.text.specs.Text.{linesTo, Adds}
 use Rattle.text.proofs.Laws.{adds-then, adds-none}
 use Rattle.text.proofs.put_points.Statement.{statement}

@@ -1,0 +1,58 @@
+-- Laws of any order of refusals. Assumes nothing.
+use Prim.Native.Nat.{ℕ, zero, suc}
+use mathlib.Core.Path.{_≡_, refl, subst}
+use mathlib.Core.List.{List, [], _∷_}
+use native.Mathlib.Omega.{arith}
+use Rattle.rules.specs.Answers.{Said, refused, gives}
+use Rattle.rules.specs.Order.{Judged, says, leaves, NoneHolds, FirstAt, refusalAt}
+use Rattle.rules.proofs.Tests.{cases}
+use Rattle.rules.proofs.Answers.{number-some}
+
+-- nothing is both refused and accepted
+pub not-both : {A : Type 0} {said : Said A} {n : ℕ} {a : A} → said ≡ refused n → said ≡ gives a → ⊥
+not-both e f = let z : _≡_ {A = ℕ} 0 1 = cc in omega arith
+
+-- either no condition holds, or one is the first that does
+pub either : {C : Type 0} (order : List Judged) → (NoneHolds order → C) → ((i : ℕ) → FirstAt i order → C) → C
+either [] accept refuse = accept tt
+either (j ∷ order) accept refuse = cases (j .holds)
+    (λ h. refuse 0 h)
+    (λ h. either order (λ w. accept (h, w)) (λ i f. refuse (suc i) (h, f)))
+
+pub says-given : {A : Type 0} (order : List Judged) (a : A) → NoneHolds order → says order a ≡ gives a
+says-given [] a w = refl
+says-given (j ∷ order) a w = rw (w .0) (says-given order a (w .1))
+
+pub says-refused : {A : Type 0} (i : ℕ) (order : List Judged) (a : A) → FirstAt i order → says order a ≡ refused (refusalAt i order)
+says-refused i [] a f = absurd f
+says-refused zero (j ∷ order) a f = rw f
+says-refused (suc i) (j ∷ order) a f = rw (f .0) (says-refused i order a (f .1))
+
+pub leaves-first : {S : Type 0} (i : ℕ) (order : List Judged) (was after : S) → FirstAt i order → leaves order was after ≡ was
+leaves-first i [] was after f = absurd f
+leaves-first zero (j ∷ order) was after f = rw f
+leaves-first (suc i) (j ∷ order) was after f = rw (f .0) (leaves-first i order was after (f .1))
+
+-- what is accepted has no condition that holds
+pub says-accepted : {A : Type 0} (order : List Judged) (a : A) {b : A} → says order a ≡ gives b → NoneHolds order
+says-accepted order a e = either order (λ w. w) (λ i f. absurd (not-both (says-refused i order a f) e))
+
+-- a refusal leaves all untouched
+pub leaves-was : {A S : Type 0} (order : List Judged) (a : A) (was after : S) (n : ℕ) → says order a ≡ refused n → leaves order was after ≡ was
+leaves-was order a was after n e = either order (λ w. absurd (not-both e (says-given order a w))) (λ i f. leaves-first i order was after f)
+
+-- what holds between two states before, and after, holds between what two calls leave that judge alike
+pub leaves-both : {S : Type 0} (P : S → S → Type 0) (order order' : List Judged) (was after was' after' : S) → order ≡ order' → P was was' → P after after'
+    → P (leaves order was after) (leaves order' was' after')
+leaves-both P order order' was after was' after' e p q = subst (λ l. P (leaves order was after) (leaves l was' after')) e (by order)
+  where
+    by : (l : List Judged) → P (leaves l was after) (leaves l was' after')
+    by [] = q
+    by (j ∷ l) = cases (j .holds) (λ h. rw h p) (λ h. rw h (by l))
+
+-- no refusal is numbered 0
+pub says-some : {A : Type 0} (order : List Judged) (a : A) → says order a ≡ refused 0 → ⊥
+says-some [] a e = not-both e refl
+says-some (j ∷ order) a e = cases (j .holds)
+    (λ h. number-some (j .refusal) (let q = rw h at e in cc))
+    (λ h. says-some order a (rw h at e))

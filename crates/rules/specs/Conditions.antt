@@ -1,0 +1,71 @@
+-- Document 01, "Refusal numbers": the condition of each refusal. 1 is `outOfRange` in Settings, 7 and 8 are in Events, 6 and 9 in the order of a point in Calls. Assumes nothing.
+use Prim.Native.Nat.{ℕ, zero, suc, _*_}
+use mathlib.Core.Bool.{Bool, false, not, cond, _||_}
+use lib.Dec.{eqb, ltb}
+use lib.ListN.{length}
+use Rattle.rules.specs.declared.Settings.{Settings}
+use Rattle.rules.specs.declared.Numbers.{Numbers}
+use Rattle.rules.specs.declared.Record.{Record}
+use Rattle.rules.specs.declared.Shape.{Shape}
+use Rattle.rules.specs.Settings.{P, outOfRange, Histogram, Tables, needed, mostReferences}
+use Rattle.rules.specs.Reference.{firstPlace, under, countAt, thresholdAt, bucketFor}
+use Rattle.rules.specs.Curve.{rawTo}
+use Rattle.rules.specs.Layout.{Held, liveOf, hashFor, profileOf}
+
+-- ---- 2 Tables
+
+-- a bucket table is shorter than needed
+abbrev pub bucketsTooShort : Settings → Histogram → Bool
+bucketsTooShort s g = ltb (length (g .counts)) (needed (s .buckets)) || ltb (length (g .thresholds)) (needed (s .buckets))
+
+-- a lent table is shorter than needed
+abbrev pub tooShort : Settings → Tables → Bool
+tooShort s t = ltb (length (t .locations)) (s .limit) || bucketsTooShort s (t .histogram)
+
+-- ---- 3 Torn
+
+-- the record
+unfoldable pub tornRecord : Record → Bool
+tornRecord k =
+    outOfRange (k .settings) || ltb (k .settings .limit) (k .live) || ltb (k .settings .start) (k .threshold)
+    || ltb (k .numbers .references) (k .numbers .sampled) || ltb mostReferences (k .numbers .references)
+
+-- a bucket: threshold 0, below t or above P, or count above 256·references
+unfoldable pub tornBucket : (references t count threshold : ℕ) → Bool
+tornBucket references t count threshold =
+    eqb threshold 0 || ltb threshold t || ltb P threshold || ltb (256 * references) count
+
+-- bucket j
+abbrev pub tornAt : (references t j : ℕ) → Histogram → Bool
+tornAt references t j g = tornBucket references t (countAt j g) (thresholdAt j g)
+
+-- one of the buckets below n
+unfoldable pub anyTorn : (references t n : ℕ) → Histogram → Bool
+anyTorn references t zero g = false
+anyTorn references t (suc n) g = anyTorn references t n g || tornAt references t n g
+
+-- of the buckets below n one is torn, or their raw counts sum above 256·references
+unfoldable pub tornTo : (references t n : ℕ) → Histogram → Bool
+tornTo references t n g = anyTorn references t n g || ltb (256 * references) (rawTo n g)
+
+-- the buckets at a report: all that are needed
+abbrev pub tornReport : (references t buckets : ℕ) → Histogram → Bool
+tornReport references t buckets g = tornTo references t (needed buckets) g
+
+-- the single bucket that a reference to x would record in; none if it would be Skipped
+abbrev pub tornFor : (x : ℕ) → Held → Bool
+tornFor x s =
+    cond (under (hashFor (s .kept .settings)) (s .kept .threshold) x)
+    (tornAt (s .kept .numbers .references) (s .kept .threshold) (bucketFor (profileOf (s .kept .settings)) (s .kept .threshold) (firstPlace x (liveOf s))) (s .tables .histogram))
+    false
+
+-- ---- 4 Full
+
+abbrev pub full : Numbers → Bool
+full n = eqb (n .references) mostReferences
+
+-- ---- 5 Stale
+
+-- the believed B or W differs from the tracker's
+abbrev pub stale : Shape → Settings → Bool
+stale b s = not (eqb (b .buckets) (s .buckets)) || not (eqb (b .width) (s .width))

@@ -1,0 +1,67 @@
+-- Where the record, the list and the buckets stand in what is lent, and what a step and a fresh start leave there. Assumes nothing.
+use Prim.Native.Nat.{ℕ, _+_}
+use mathlib.Core.List.{List}
+use lib.ListN.{length, take}
+use Rattle.rules.specs.declared.Settings.{Settings}
+use Rattle.rules.specs.declared.Numbers.{Numbers}
+use Rattle.rules.specs.declared.Record.{Record}
+use Rattle.rules.specs.Lists.{over}
+use Rattle.rules.specs.Settings.{hashOf, Histogram, Tables}
+use Rattle.rules.specs.Reference.{Sample, Profile, widths, Reply, skipped, first, again, Stepped, blank}
+
+-- a record with its tables
+pub record Held : Type 0 where
+  pub kept : Record
+  pub tables : Tables
+
+abbrev pub bucketsOf : (counts thresholds : List ℕ) → Histogram
+bucketsOf counts thresholds = record { counts = counts; thresholds = thresholds }
+
+abbrev pub tablesOf : (locations counts thresholds : List ℕ) → Tables
+tablesOf locations counts thresholds = record { locations = locations; histogram = bucketsOf counts thresholds }
+
+abbrev pub held : Record → (locations counts thresholds : List ℕ) → Held
+held k locations counts thresholds = record { kept = k; tables = tablesOf locations counts thresholds }
+
+-- the live list stands at the front of the location table
+abbrev pub liveOf : Held → List ℕ
+liveOf s = take (s .kept .live) (s .tables .locations)
+
+abbrev pub sampleOf : Held → Sample
+sampleOf s = record { threshold = s .kept .threshold; live = liveOf s; histogram = s .tables .histogram }
+
+abbrev pub hashFor : Settings → ℕ → ℕ
+hashFor s = hashOf (s .hashing)
+
+abbrev pub profileOf : Settings → Profile
+profileOf s = widths (s .width) (s .buckets)
+
+-- references rises by one, and sampled if the answer is not Skipped
+abbrev pub counted : Reply → Numbers → Numbers
+counted skipped n = record { references = n .references + 1; sampled = n .sampled }
+counted first n = record { references = n .references + 1; sampled = n .sampled + 1 }
+counted (again d) n = record { references = n .references + 1; sampled = n .sampled + 1 }
+
+-- a step's list over the front of the location table, its buckets in theirs, its threshold and live number in the record
+abbrev pub laid : Stepped → Held → Held
+laid r s = record {
+  kept = record { settings = s .kept .settings; threshold = r .left .threshold; live = length (r .left .live); numbers = counted (r .reply) (s .kept .numbers) };
+  tables = record { locations = over (r .left .live) (s .tables .locations); histogram = r .left .histogram };
+}
+
+-- a fresh start: all needed counts 0, all needed bucket thresholds T0; entries past the needed ones never changed
+abbrev pub freshBuckets : Settings → Histogram → Histogram
+freshBuckets s g = record {
+  counts = over (blank (s .buckets) (s .start) .counts) (g .counts);
+  thresholds = over (blank (s .buckets) (s .start) .thresholds) (g .thresholds);
+}
+
+-- the location table is not written
+abbrev pub freshTables : Settings → Tables → Tables
+freshTables s t = record { locations = t .locations; histogram = freshBuckets s (t .histogram) }
+
+abbrev pub freshRecord : Settings → Record
+freshRecord s = record { settings = s; threshold = s .start; live = 0; numbers = record { references = 0; sampled = 0 } }
+
+abbrev pub fresh : Settings → Tables → Held
+fresh s t = record { kept = freshRecord s; tables = freshTables s t }
