@@ -12,23 +12,25 @@ use Rattle.rules.specs.declared.Started.the-variants as started
 use Rattle.rules.specs.declared.Referred.{Referred}
 use Rattle.rules.specs.declared.Answer.{Answer}
 use Rattle.rules.specs.declared.Answer.the-variants as answer
-use Rattle.rules.specs.Answers.{gives, saidAnswer, saidTaken}
-use Rattle.rules.specs.Layout.{Held, held}
-use Rattle.rules.specs.Calls.{Outcome, Beginning, setupOf, restartOf, referOf, startedOver, goingOn, referAll, applyOf, afterStarted, afterReferred, afterApplied}
+use Rattle.rules.specs.Settings.{Tables}
+use Rattle.rules.specs.Answers.{gives, replyResult, takenResult, startedResult}
+use Rattle.rules.specs.Order.{Outcome, outcome}
+use Rattle.rules.specs.Layout.{Tracker, tracker, tablesOf}
+use Rattle.rules.specs.Calls.{setupOf, restartOf, referOf, startedOver, goingOn, referAll, applyOf}
 use Rattle.rules.proofs.Tests.{cases}
-use Rattle.apply.specs.declared.Asked.{Asked}
-use Rattle.apply.specs.declared.Asked.the-variants as asked
-use Rattle.apply.specs.Asking.{askedBy, startedOn, takenOf, takenFrom}
+use Rattle.apply.specs.declared.Call.{Call}
+use Rattle.apply.specs.declared.Call.the-variants as call
+use Rattle.apply.specs.EventCall.{callOf, startedOn, takenOf, takenFrom}
 
--- the rules' outcome of what is asked
-abbrev doneOf : Asked → Held → Outcome (Unit {0})
-doneOf asked.Nothing s = record { said = gives tt; left = s }
-doneOf (asked.Reference x) s = referAll (x ∷ []) s
-doneOf asked.Restart s = let b = restartOf (s .kept) (s .tables) in startedOver (s .kept) (b .said) (b .tables)
-doneOf (asked.Setup given) s = let b = setupOf given (s .tables) in startedOver (s .kept) (b .said) (b .tables)
+-- the rules' outcome of what is call
+abbrev doneOf : Call → Tracker → Outcome (Unit {0}) Tracker
+doneOf call.Nothing s = record { result = gives tt; left = s }
+doneOf (call.Reference x) s = referAll (x ∷ []) s
+doneOf call.Restart s = let b = restartOf (s .kept) (s .tables) in startedOver (s .kept) (b .result) (b .left)
+doneOf (call.Setup given) s = let b = setupOf given (s .tables) in startedOver (s .kept) (b .result) (b .left)
 
 -- an event asks for what the rules make of it
-done-is : (e : Event) (s : Held) → doneOf (askedBy e) s ≡ applyOf e s
+done-is : (e : Event) (s : Tracker) → doneOf (callOf e) s ≡ applyOf e s
 unfolding applyOf referAll
 done-is (event.Location x) s = refl
 done-is (event.Span offset length) s = cases (eqb length 0) (λ z. rw z) (λ z. rw z)
@@ -36,38 +38,38 @@ done-is event.Restart s = refl
 done-is (event.Setup b) s = refl
 
 -- a list of one reference
-one-reference : (x : ℕ) (s : Held) (r : Referred) (ls cs ts : List ℕ) → afterReferred r ls cs ts ≡ referOf x s → afterApplied (takenFrom r) ls cs ts ≡ referAll (x ∷ []) s
+one-reference : (x : ℕ) (s : Tracker) (r : Referred) (ls cs ts : List ℕ) → outcome (replyResult (r .answer)) (tracker (r .kept) ls cs ts) ≡ referOf x s → outcome (takenResult ((takenFrom r) .answer)) (tracker ((takenFrom r) .kept) ls cs ts) ≡ referAll (x ∷ []) s
 unfolding referAll
-one-reference x s r ls cs ts e = by (r .answer) ∙ ap (λ o. goingOn (o .said) (o .left) (record { said = gives tt; left = o .left })) e
+one-reference x s r ls cs ts e = by (r .answer) ∙ ap (λ o. goingOn (o .result) (o .left) (record { result = gives tt; left = o .left })) e
   where
-    by : (a : Answer) → record { said = saidTaken (takenOf a); left = held (r .kept) ls cs ts } ≡ goingOn (saidAnswer a) (held (r .kept) ls cs ts) (record { said = gives tt; left = held (r .kept) ls cs ts })
+    by : (a : Answer) → record { result = takenResult (takenOf a); left = tracker (r .kept) ls cs ts } ≡ goingOn (replyResult a) (tracker (r .kept) ls cs ts) (record { result = gives tt; left = tracker (r .kept) ls cs ts })
     by answer.Skipped = refl
     by (answer.Again d) = refl
     by answer.First = refl
     by (answer.Refused w) = refl
 
 -- a start, over a tracker that had the record k
-one-start : (k : Record) (b : Beginning) (r : Started) (ls cs ts : List ℕ) → afterStarted r ls cs ts ≡ b → afterApplied (startedOn k r) ls cs ts ≡ startedOver k (b .said) (b .tables)
-one-start k b r ls cs ts e = by r ∙ ap (λ z. startedOver k (z .said) (z .tables)) e
+one-start : (kept : Record) (b : Outcome Record Tables) (r : Started) (ls cs ts : List ℕ) → outcome (startedResult r) (tablesOf ls cs ts) ≡ b → outcome (takenResult ((startedOn kept r) .answer)) (tracker ((startedOn kept r) .kept) ls cs ts) ≡ startedOver kept (b .result) (b .left)
+one-start kept b r ls cs ts e = by r ∙ ap (λ z. startedOver kept (z .result) (z .left)) e
   where
-    by : (r : Started) → afterApplied (startedOn k r) ls cs ts ≡ startedOver k (afterStarted r ls cs ts .said) (afterStarted r ls cs ts .tables)
+    by : (r : Started) → outcome (takenResult ((startedOn kept r) .answer)) (tracker ((startedOn kept r) .kept) ls cs ts) ≡ startedOver kept (outcome (startedResult r) (tablesOf ls cs ts) .result) (outcome (startedResult r) (tablesOf ls cs ts) .left)
     by (started.Ready j) = refl
     by (started.Refused w) = refl
 
--- what the event asked for, once it is known
-module _ (e : Event) (s : Held) (a : Asked) (is : a ≡ askedBy e) where
-  asked-is : doneOf a s ≡ applyOf e s
-  asked-is = ap (λ z. doneOf z s) is ∙ done-is e s
+-- what the event call for, once it is known
+module _ (e : Event) (s : Tracker) (a : Call) (is : a ≡ callOf e) where
+  call-is : doneOf a s ≡ applyOf e s
+  call-is = ap (λ z. doneOf z s) is ∙ done-is e s
 
-  pub apply-nothing : a ≡ asked.Nothing → record { said = gives tt; left = s } ≡ applyOf e s
-  apply-nothing p = ap (λ z. doneOf z s) (sym p) ∙ asked-is
+  pub apply-nothing : a ≡ call.Nothing → record { result = gives tt; left = s } ≡ applyOf e s
+  apply-nothing p = ap (λ z. doneOf z s) (sym p) ∙ call-is
 
   module _ (ls cs ts : List ℕ) where
-    pub apply-reference : (x : ℕ) (r : Referred) → a ≡ asked.Reference x → afterReferred r ls cs ts ≡ referOf x s → afterApplied (takenFrom r) ls cs ts ≡ applyOf e s
-    apply-reference x r p q = one-reference x s r ls cs ts q ∙ ap (λ z. doneOf z s) (sym p) ∙ asked-is
+    pub apply-reference : (x : ℕ) (r : Referred) → a ≡ call.Reference x → outcome (replyResult (r .answer)) (tracker (r .kept) ls cs ts) ≡ referOf x s → outcome (takenResult ((takenFrom r) .answer)) (tracker ((takenFrom r) .kept) ls cs ts) ≡ applyOf e s
+    apply-reference x r p q = one-reference x s r ls cs ts q ∙ ap (λ z. doneOf z s) (sym p) ∙ call-is
 
-    pub apply-restart : (r : Started) → a ≡ asked.Restart → afterStarted r ls cs ts ≡ restartOf (s .kept) (s .tables) → afterApplied (startedOn (s .kept) r) ls cs ts ≡ applyOf e s
-    apply-restart r p q = one-start (s .kept) (restartOf (s .kept) (s .tables)) r ls cs ts q ∙ ap (λ z. doneOf z s) (sym p) ∙ asked-is
+    pub apply-restart : (r : Started) → a ≡ call.Restart → outcome (startedResult r) (tablesOf ls cs ts) ≡ restartOf (s .kept) (s .tables) → outcome (takenResult ((startedOn (s .kept) r) .answer)) (tracker ((startedOn (s .kept) r) .kept) ls cs ts) ≡ applyOf e s
+    apply-restart r p q = one-start (s .kept) (restartOf (s .kept) (s .tables)) r ls cs ts q ∙ ap (λ z. doneOf z s) (sym p) ∙ call-is
 
-    pub apply-setup : (given : Settings) (r : Started) → a ≡ asked.Setup given → afterStarted r ls cs ts ≡ setupOf given (s .tables) → afterApplied (startedOn (s .kept) r) ls cs ts ≡ applyOf e s
-    apply-setup given r p q = one-start (s .kept) (setupOf given (s .tables)) r ls cs ts q ∙ ap (λ z. doneOf z s) (sym p) ∙ asked-is
+    pub apply-setup : (given : Settings) (r : Started) → a ≡ call.Setup given → outcome (startedResult r) (tablesOf ls cs ts) ≡ setupOf given (s .tables) → outcome (takenResult ((startedOn (s .kept) r) .answer)) (tracker ((startedOn (s .kept) r) .kept) ls cs ts) ≡ applyOf e s
+    apply-setup given r p q = one-start (s .kept) (setupOf given (s .tables)) r ls cs ts q ∙ ap (λ z. doneOf z s) (sym p) ∙ call-is

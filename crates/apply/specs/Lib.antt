@@ -1,1 +1,1 @@
-pub mod Asking
+pub mod EventCall

@@ -1,29 +1,31 @@
 // One trace event, handed to a tracker.
 use rules::Answer;
 use rules::Applied;
-use rules::Body;
 use rules::Event;
 use rules::Hashing;
 use rules::Record;
 use rules::Referred;
 use rules::Settings;
+use rules::SetupBody;
 use rules::Started;
 use rules::Taken;
 ghost use mathlib.Core.Path.{_≡_};
+ghost use Rattle.rules.specs.Answers.{takenResult};
+ghost use Rattle.rules.specs.Order.{outcome};
 ghost use Rattle.rules.specs.Events.{settingsOf};
-ghost use Rattle.rules.specs.Layout.{held};
-ghost use Rattle.rules.specs.Calls.{applyOf, afterApplied};
-ghost use Rattle.apply.specs.Asking.{askedBy, startedOn, takenFrom};
+ghost use Rattle.rules.specs.Layout.{tracker};
+ghost use Rattle.rules.specs.Calls.{applyOf};
+ghost use Rattle.apply.specs.EventCall.{callOf, startedOn, takenFrom};
 
 // What an event asks of a tracker: at most one reference, or a fresh start.
-enum Asked {
+enum Call {
     Nothing,
     Reference(u64),
     Restart,
     Setup(Settings),
 }
 
-fn settings_of(body: Body) -> Settings
+fn settings_of(body: SetupBody) -> Settings
     ensures { λ r. ⌜ r ≡ settingsOf body ⌝ }
 {
     Settings {
@@ -37,9 +39,9 @@ fn settings_of(body: Body) -> Settings
     }
 }
 
-// A start over a tracker that had the record k: a refused one keeps it.
-fn started_over(k: Record, started: Started) -> Applied
-    ensures { λ r. ⌜ r ≡ startedOn k started ⌝ }
+// A start over a tracker that had the record kept: a refused one keeps it.
+fn started_over(kept: Record, started: Started) -> Applied
+    ensures { λ r. ⌜ r ≡ startedOn kept started ⌝ }
 {
     match started {
         Started::Ready(record) => Applied {
@@ -47,7 +49,7 @@ fn started_over(k: Record, started: Started) -> Applied
             answer: Taken::Whole,
         },
         Started::Refused(why) => Applied {
-            kept: k,
+            kept: kept,
             answer: Taken::Refused(why),
         },
     }
@@ -80,48 +82,48 @@ fn taken(referred: Referred) -> Applied
 }
 
 // What the event asks. A span asks for the block of its first byte, and one of length 0 for nothing.
-fn asked_by(event: Event) -> Asked
-    ensures { λ r. ⌜ r ≡ askedBy event ⌝ }
+fn call_of(event: Event) -> Call
+    ensures { λ r. ⌜ r ≡ callOf event ⌝ }
 {
     match event {
-        Event::Location(location) => Asked::Reference(location),
+        Event::Location(location) => Call::Reference(location),
         Event::Span { offset, length } => {
             if length == 0 {
-                return Asked::Nothing;
+                return Call::Nothing;
             }
-            Asked::Reference(offset / 4096)
+            Call::Reference(offset / 4096)
         }
-        Event::Restart => Asked::Restart,
-        Event::Setup(body) => Asked::Setup(settings_of(body)),
+        Event::Restart => Call::Restart,
+        Event::Setup(body) => Call::Setup(settings_of(body)),
     }
 }
 
 // One trace event. The one call of `refer` is what lets the compiler keep the record in registers over a run of events.
 pub fn apply(
-    k: Record,
+    kept: Record,
     event: Event,
     locations: &mut [u64],
     counts: &mut [u64],
     thresholds: &mut [u32],
 ) -> Applied
-    ensures { λ r. ⌜ afterApplied r (now (locations .exit)) (now (counts .exit)) (now (thresholds .exit)) ≡ applyOf event (held k (now (locations .entry)) (now (counts .entry)) (now (thresholds .entry))) ⌝ }
+    ensures { λ r. ⌜ outcome (takenResult (r .answer)) (tracker (r .kept) (now (locations .exit)) (now (counts .exit)) (now (thresholds .exit))) ≡ applyOf event (tracker kept (now (locations .entry)) (now (counts .entry)) (now (thresholds .entry))) ⌝ }
 {
-    match asked_by(event) {
-        Asked::Nothing => Applied {
-            kept: k,
+    match call_of(event) {
+        Call::Nothing => Applied {
+            kept: kept,
             answer: Taken::Whole,
         },
-        Asked::Reference(location) => taken(tracker::refer(
-            k,
+        Call::Reference(location) => taken(refer::refer(
+            kept,
             location,
             locations,
             counts,
             thresholds,
         )),
-        Asked::Restart => started_over(k, start::restart(k, locations, counts, thresholds)),
-        Asked::Setup(settings) => started_over(
-            k,
-            start::setup(settings, locations, counts, thresholds),
+        Call::Restart => started_over(kept, setup::restart(kept, locations, counts, thresholds)),
+        Call::Setup(settings) => started_over(
+            kept,
+            setup::setup(settings, locations, counts, thresholds),
         ),
     }
 }

@@ -5,7 +5,7 @@ use mathlib.Core.Bool.{Bool}
 use mathlib.Core.List.{List}
 use Rattle.rules.specs.declared.Reported.{Reported}
 use Rattle.rules.specs.Settings.{Histogram}
-use Rattle.rules.specs.Answers.{saidReported}
+use Rattle.rules.specs.Answers.{reportResult}
 use Rattle.rules.proofs.Answers.{reported-injective}
 use Rattle.buckets.specs.Buckets.{recorded, recordedOf, reportOf}
 
@@ -15,5 +15,5 @@ module _ (references t : ℕ) (g : Histogram) where
       let h = e ∙ sym f in
       (ap (λ k. k .done) h, ap (λ k. k .histogram .counts) h, ap (λ k. k .histogram .thresholds) h)
 
-  pub report-unique : (n point : ℕ) (r s : Reported) → saidReported r ≡ reportOf references t n point g → saidReported s ≡ reportOf references t n point g → r ≡ s
+  pub report-unique : (n point : ℕ) (r s : Reported) → reportResult r ≡ reportOf references t n point g → reportResult s ≡ reportOf references t n point g → r ≡ s
   report-unique n point r s e f = reported-injective r s (e ∙ sym f)

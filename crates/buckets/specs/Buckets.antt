@@ -9,7 +9,7 @@ use Rattle.rules.specs.declared.Sums.{Sums}
 use Rattle.rules.specs.Settings.{Histogram}
 use Rattle.rules.specs.Reference.{recordIn}
 use Rattle.rules.specs.Curve.{sumTo, rawTo}
-use Rattle.rules.specs.Answers.{Said, refused, gives}
+use Rattle.rules.specs.Answers.{Result, refused, gives}
 use Rattle.rules.specs.Layout.{bucketsOf}
 use Rattle.rules.specs.Conditions.{tornAt, anyTorn, tornTo}
 use Rattle.buckets.specs.declared.Added.{Added}
@@ -34,7 +34,7 @@ recordedOf references t j g =
     (record { done = true; histogram = recordIn t j g })
 
 -- what the first n buckets say when they are reported under t
-unfoldable pub reportOf : (references t n point : ℕ) → Histogram → Said Sums
+unfoldable pub reportOf : (references t n point : ℕ) → Histogram → Result Sums
 reportOf references t n point g =
     cond (ltb (length (g .counts)) n || ltb (length (g .thresholds)) n || tornTo references t n g) (refused 3)
     (gives (record { hits = sumTo t (min point n) g; total = sumTo t n g }))

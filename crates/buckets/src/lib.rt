@@ -5,9 +5,9 @@ ghost use mathlib.Core.Path.{_≡_};
 ghost use mathlib.Core.Bool.{false};
 ghost use Prim.Native.Nat.{_≤_, min};
 ghost use lib.ListN.{length};
+ghost use Rattle.rules.specs.Answers.{reportResult};
 ghost use Rattle.rules.specs.Layout.{bucketsOf};
 ghost use Rattle.rules.specs.Conditions.{tornBucket};
-ghost use Rattle.rules.specs.Answers.{saidReported};
 ghost use Rattle.buckets.specs.Buckets.{recorded, recordedOf, SoFar, addedTo, reportOf};
 
 // The raw counts of some buckets together, and the same as they are reported.
@@ -107,7 +107,7 @@ pub fn report(
     threshold: u64,
     references: u32,
 ) -> Reported
-    ensures { λ r. ⌜ saidReported r ≡ reportOf references threshold needed point (bucketsOf (now (counts .entry)) (now (thresholds .entry))) ⌝ }
+    ensures { λ r. ⌜ reportResult r ≡ reportOf references threshold needed point (bucketsOf (now (counts .entry)) (now (thresholds .entry))) ⌝ }
 {
     if counts.len() < needed {
         return Reported::Torn;

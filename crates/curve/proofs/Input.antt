@@ -8,18 +8,19 @@ use lib.Dec.{ltb}
 use lib.ListN.{length, take, drop, length-append, length-drop}
 use lib.Seq.{drop-append-le, drop-drop, take-add}
 use borrow.Author.Tests.{lt-ltb, le-ltb}
-use Rattle.rules.specs.Answers.{Said, refused, gives, numberOf}
-use Rattle.rules.specs.declared.Record.{Record}
 use Rattle.rules.specs.Lists.{over}
 use Rattle.rules.specs.Settings.{Histogram, Tables}
-use Rattle.rules.specs.Layout.{Held}
-use Rattle.rules.specs.Calls.{Beginning, setupOf}
+use Rattle.rules.specs.Answers.{Result, refused, gives, numberOf}
+use Rattle.rules.specs.Order.{Outcome}
+use Rattle.rules.specs.Layout.{Tracker}
+use Rattle.rules.specs.Calls.{setupOf}
+use Rattle.rules.specs.declared.Record.{Record}
 use Rattle.rules.proofs.Tests.{or-neither}
 use Rattle.rules.proofs.Answers.{number-some, number-refused}
 use Rattle.rules.proofs.Tables.{over-front}
 use Rattle.feed.specs.declared.Ending.{Ending}
 use Rattle.feed.specs.declared.Ending.the-variants as ending
-use Rattle.feed.specs.Feed.{End, whole, inside, Feeding, saidEnding, feedOf}
+use Rattle.feed.specs.Feed.{End, whole, inside, Feeding, endingResult, feedOf}
 use Rattle.feed.proofs.Laws.{feed-none}
 use Rattle.feed.proofs.Pieces.{Untaken, untaken, taken-within, pieces}
 use Rattle.text.specs.Text.{refusedLine, curveText, placed, frontOr, curveIn, refusedIn}
@@ -28,17 +29,17 @@ use Rattle.curve.specs.Program.{firstSettings, endText, textFrom, textAf
 
 -- ---- what feeding ended with
 
-pub record Ends (why : Said End) : Type 0 where
+pub record Ends (why : Result End) : Type 0 where
   pub end : End
   pub is : why ≡ gives end
 
-pub no-refusal : (e : Ending) {n : ℕ} → n ≡ numberOf (saidEnding e) → (0 < n → ⊥) → Ends (saidEnding e)
+pub no-refusal : (e : Ending) {n : ℕ} → n ≡ numberOf (endingResult e) → (0 < n → ⊥) → Ends (endingResult e)
 no-refusal ending.Whole q h = record { end = whole; is = refl }
 no-refusal ending.Inside q h = record { end = inside; is = refl }
 no-refusal (ending.Refused r) {n} q h = absurd (number-some r (omega arith))
 
-pub a-refusal : (e : Ending) {n : ℕ} → n ≡ numberOf (saidEnding e) → 0 < n → saidEnding e ≡ refused n
-a-refusal e q h = number-refused (saidEnding e) (rw q at h) ∙ ap refused (sym q)
+pub a-refusal : (e : Ending) {n : ℕ} → n ≡ numberOf (endingResult e) → 0 < n → endingResult e ≡ refused n
+a-refusal e q h = number-refused (endingResult e) (rw q at h) ∙ ap refused (sym q)
 
 -- ---- text at the front of the buffer
 
@@ -54,22 +55,22 @@ module _ (before after : List ℕ) (n : ℕ) where
   pub refused-stands : (number place : ℕ) → 53 ≤ length before → placed n after ≡ refusedIn number place before → Stands (refusedLine number place) after n
   refused-stands number place h = stands (refusedLine number place) before after n (le-ltb (length before) 53 h)
 
-  pub curve-stands : (k : Record) (g : Histogram) → 65536 ≤ length before → length (g .counts) ≤ 1026 → placed n after ≡ curveIn k g before → Stands (curveText k g) after n
-  curve-stands k g h few = stands (curveText k g) before after n (or-neither (le-ltb (length before) 65536 h) (le-ltb 1026 (length (g .counts)) few))
+  pub curve-stands : (kept : Record) (g : Histogram) → 65536 ≤ length before → length (g .counts) ≤ 1026 → placed n after ≡ curveIn kept g before → Stands (curveText kept g) after n
+  curve-stands kept g h few = stands (curveText kept g) before after n (or-neither (le-ltb (length before) 65536 h) (le-ltb 1026 (length (g .counts)) few))
 
 -- ---- between reads
 
-pub follows-none : (s : Held) → Follows s 0 s []
+pub follows-none : (s : Tracker) → Follows s 0 s []
 follows-none s = record { end = whole; reached = record { input = []; is = feed-none [] s refl; rest-is = refl } }
 
-pub reached-follows : {first s : Held} {place : ℕ} {why : Said End} {rest : List ℕ} → Reached first place why s rest → Ends why → Follows first place s rest
+pub reached-follows : {first s : Tracker} {place : ℕ} {why : Result End} {rest : List ℕ} → Reached first place why s rest → Ends why → Follows first place s rest
 reached-follows r e = record { end = e .end; reached = rw (e .is) at r }
 
-pub reached-refused : {first s : Held} {place m : ℕ} {why : Said End} {rest : List ℕ} → Reached first place why s rest → why ≡ refused m
+pub reached-refused : {first s : Tracker} {place m : ℕ} {why : Result End} {rest : List ℕ} → Reached first place why s rest → why ≡ refused m
     → {buffer : List ℕ} {n : ℕ} → Stands (refusedLine m place) buffer n → Prints (textFrom first) buffer n
 reached-refused r e a = record { input = r .input; stands = record { is = a .is ∙ rw (r .is, e); fits = a .fits } }
 
-module _ (first : Held) (place : ℕ) (s : Held) (rest : List ℕ) (w : Follows first place s rest) where
+module _ (first : Tracker) (place : ℕ) (s : Tracker) (rest : List ℕ) (w : Follows first place s rest) where
   ended : Untaken (gives (w .end)) (length (w .reached .input)) place
   ended = rw (w .reached .is) at (untaken (w .reached .input) first)
 
@@ -102,7 +103,7 @@ module _ (first : Held) (place : ℕ) (s : Held) (rest : List ℕ) (w : Follows 
   }
 
   -- more of the input
-  pub follows-more : (more : List ℕ) (n : ℕ) (why : Said End) (left : Held) → record { taken = n; said = why; left = left } ≡ feedOf (rest ++ more) s
+  pub follows-more : (more : List ℕ) (n : ℕ) (why : Result End) (left : Tracker) → record { taken = n; result = why; left = left } ≡ feedOf (rest ++ more) s
       → Reached first (place + n) why left (drop n (rest ++ more))
   follows-more more n why left q = record {
     input = w .reached .input ++ more;
@@ -116,16 +117,16 @@ pub behind : (left count : ℕ) (before now : List ℕ) → take left now ≡ ta
 behind left count before now e = take-add left count now ∙ ap (λ l. l ++ take count (drop left now)) e
 
 -- no more was taken than was fed
-pub taken-most : (bytes : List ℕ) (s : Held) {f : Feeding} → f ≡ feedOf bytes s → f .taken ≤ length bytes
+pub taken-most : (bytes : List ℕ) (s : Tracker) {f : Feeding} → f ≡ feedOf bytes s → f .taken ≤ length bytes
 taken-most bytes s e = rw e (taken-within bytes s)
 
 -- ---- from the first settings on
 
 module _ (t after : Tables) where
-  pub begun : (k : Record) (r : Done) (buffer : List ℕ) → record { said = gives k; tables = after } ≡ setupOf firstSettings t
-      → Telling (textFrom (record { kept = k; tables = after })) r buffer → Telling (textOver t) r buffer
-  begun k r buffer e h = subst (λ (z : Beginning). Telling (λ (input : List ℕ). textAfter (z .said) (z .tables) input) r buffer) e h
+  pub telling-started : (kept : Record) (r : Done) (buffer : List ℕ) → record { result = gives kept; left = after } ≡ setupOf firstSettings t
+      → Telling (textFrom (record { kept = kept; tables = after })) r buffer → Telling (textOver t) r buffer
+  telling-started kept r buffer e h = subst (λ (z : Outcome Record Tables). Telling (λ (input : List ℕ). textAfter (z .result) (z .left) input) r buffer) e h
 
-  pub not-begun : (n : ℕ) {buffer : List ℕ} {m : ℕ} → record { said = refused n; tables = after } ≡ setupOf firstSettings t
+  pub telling-refused : (n : ℕ) {buffer : List ℕ} {m : ℕ} → record { result = refused n; left = after } ≡ setupOf firstSettings t
       → Stands (refusedLine n 0) buffer m → Prints (textOver t) buffer m
-  not-begun n e a = record { input = []; stands = record { is = a .is ∙ ap (λ (z : Beginning). textAfter (z .said) (z .tables) []) e; fits = a .fits } }
+  telling-refused n e a = record { input = []; stands = record { is = a .is ∙ ap (λ (z : Outcome Record Tables). textAfter (z .result) (z .left) []) e; fits = a .fits } }

@@ -23,7 +23,7 @@ unfolding withDefaults
 long = refl
 
 -- the program begins with an accepted setup
-begins : setupOf firstSettings firstTables ≡ record { said = gives (start .kept); tables = start .tables }
+begins : setupOf firstSettings firstTables ≡ record { result = gives (start .kept); left = start .tables }
 unfolding start
 begins = setup-accept firstSettings firstTables in-range long
 
@@ -34,5 +34,5 @@ printed input =
       events = r .events;
       are = r .are;
       run = r .continued [] (setup firstSettings firstTables begins);
-      text = λ e. ap (λ b. textAfter (b .said) (b .tables) input) begins ∙ ap (λ z. endText z (feedOf input start .taken) (feedOf input start .left)) e;
+      text = λ e. ap (λ b. textAfter (b .result) (b .left) input) begins ∙ ap (λ z. endText z (feedOf input start .taken) (feedOf input start .left)) e;
     }

@@ -4,9 +4,9 @@ use mathlib.Core.List.{List, []}
 use Prim.Native.Nat.{ℕ}
 use lib.ListN.{take}
 use Rattle.rules.specs.declared.Event.{Event}
-use Rattle.rules.specs.Answers.{gives}
 use Rattle.rules.specs.Settings.{withDefaults}
-use Rattle.rules.specs.Layout.{Held, fresh}
+use Rattle.rules.specs.Answers.{gives}
+use Rattle.rules.specs.Layout.{Tracker, fresh}
 use Rattle.demands.specs.Runs.{Run}
 use Rattle.text.specs.Text.{curveText}
 use Rattle.feed.specs.Feed.{whole, feedOf}
@@ -14,7 +14,7 @@ use Rattle.feed.specs.Past.{Events, pastOf}
 use Rattle.curve.specs.Program.{firstSettings, firstTables, programOf}
 
 -- the fresh start that the program begins with
-unfoldable pub start : Held
+unfoldable pub start : Tracker
 start = fresh (withDefaults firstSettings) firstTables
 
 -- of an input that ends at the end of an event, none of them refused: its events, and the run whose references are those since the
@@ -23,4 +23,4 @@ pub record Printed (input : List ℕ) : Type 0 where
   pub events : List Event
   pub are : Events (take (feedOf input start .taken) input) events
   pub run : Run (pastOf events []) (feedOf input start .left)
-  pub text : feedOf input start .said ≡ gives whole → programOf input ≡ curveText (feedOf input start .left .kept) (feedOf input start .left .tables .histogram)
+  pub text : feedOf input start .result ≡ gives whole → programOf input ≡ curveText (feedOf input start .left .kept) (feedOf input start .left .tables .histogram)

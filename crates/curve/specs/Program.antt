@@ -6,12 +6,12 @@ use lib.ListN.{length, take, drop, replicate}
 use Rattle.rules.specs.declared.Record.{Record}
 use Rattle.rules.specs.declared.Settings.{Settings}
 use Rattle.rules.specs.Settings.{Tables}
-use Rattle.rules.specs.Answers.{Said, refused, gives}
-use Rattle.rules.specs.Layout.{Held, tablesOf}
+use Rattle.rules.specs.Answers.{Result, refused, gives}
+use Rattle.rules.specs.Layout.{Tracker, tablesOf}
 use Rattle.rules.specs.Calls.{setupOf}
 use Rattle.text.specs.Text.{refusedLine, curveText}
 use Rattle.feed.specs.declared.Fed.{Fed}
-use Rattle.feed.specs.Feed.{End, whole, inside, saidEnding, feedOf}
+use Rattle.feed.specs.Feed.{End, whole, inside, endingResult, feedOf}
 use Rattle.curve.specs.declared.Came.{Came}
 use Rattle.curve.specs.declared.Came.the-variants as came
 use Rattle.curve.specs.declared.Done.{Done}
@@ -29,22 +29,22 @@ abbrev pub firstTables : Tables
 firstTables = tablesOf (replicate 1024 0) (replicate 1026 0) (replicate 1026 0)
 
 -- at the end of the input an incomplete event is refused 7; a refused event's place counts from the start of the input
-abbrev pub endText : Said End → (place : ℕ) → Held → List ℕ
+abbrev pub endText : Result End → (place : ℕ) → Tracker → List ℕ
 endText (refused n) place s = refusedLine n place
 endText (gives inside) place s = refusedLine 7 place
 endText (gives whole) place s = curveText (s .kept) (s .tables .histogram)
 
 -- what is printed of the input, from a state on
-abbrev pub textFrom : Held → List ℕ → List ℕ
-textFrom s input = endText (feedOf input s .said) (feedOf input s .taken) (feedOf input s .left)
+abbrev pub textFrom : Tracker → List ℕ → List ℕ
+textFrom s input = endText (feedOf input s .result) (feedOf input s .taken) (feedOf input s .left)
 
-abbrev pub textAfter : Said Record → Tables → List ℕ → List ℕ
+abbrev pub textAfter : Result Record → Tables → List ℕ → List ℕ
 textAfter (refused n) t input = refusedLine n 0
-textAfter (gives k) t input = textFrom (record { kept = k; tables = t }) input
+textAfter (gives kept) t input = textFrom (record { kept = kept; tables = t }) input
 
 -- what is printed of the whole input, over tables
 abbrev pub textOver : Tables → List ℕ → List ℕ
-textOver t input = textAfter (setupOf firstSettings t .said) (setupOf firstSettings t .tables) input
+textOver t input = textAfter (setupOf firstSettings t .result) (setupOf firstSettings t .left) input
 
 -- the program: what it prints of an input
 abbrev pub programOf : List ℕ → List ℕ
@@ -76,13 +76,13 @@ Telling text done.Failed buffer = Unit {0}
 Telling text done.Unending buffer = Unit {0}
 
 -- some input, fed from the first state on, was taken up to a place: why no more was, what that left, and the bytes behind the place
-pub record Reached (first : Held) (place : ℕ) (why : Said End) (s : Held) (rest : List ℕ) : Type 0 where
+pub record Reached (first : Tracker) (place : ℕ) (why : Result End) (s : Tracker) (rest : List ℕ) : Type 0 where
   pub input : List ℕ
-  pub is : feedOf input first ≡ record { taken = place; said = why; left = s }
+  pub is : feedOf input first ≡ record { taken = place; result = why; left = s }
   pub rest-is : drop place input ≡ rest
 
 -- no event of it was refused
-pub record Follows (first : Held) (place : ℕ) (s : Held) (rest : List ℕ) : Type 0 where
+pub record Follows (first : Tracker) (place : ℕ) (s : Tracker) (rest : List ℕ) : Type 0 where
   pub end : End
   pub reached : Reached first place (gives end) s rest
 
@@ -99,22 +99,22 @@ pub record Later (p q : Pause) : Type 0 where
   pub counted : q .place + q .reach < 2 ^ 64
 
 -- after a read of an input that follows a first state: it follows still, or the text of it stands
-abbrev pub Leads : (first : Held) → Pause → Next → (buffer : List ℕ) → Tables → Type 0
+abbrev pub Leads : (first : Tracker) → Pause → Next → (buffer : List ℕ) → Tables → Type 0
 Leads first p (next.On q) buffer t = Later p q × Follows first (q .place) (record { kept = q .kept; tables = t }) (take (q .left) buffer)
 Leads first p (next.Over d) buffer t = Telling (textFrom first) d buffer
 
 -- after feeding these bytes
 abbrev pub AfterFed : Pause → Fed → (bytes : List ℕ) → Next → (buffer : List ℕ) → Type 0
 AfterFed p fed bytes r buffer =
-    (first : Held) (t : Tables)
-    → Reached first (p .place + fed .taken) (saidEnding (fed .ending)) (record { kept = fed .kept; tables = t }) (drop (fed .taken) bytes)
+    (first : Tracker) (t : Tables)
+    → Reached first (p .place + fed .taken) (endingResult (fed .ending)) (record { kept = fed .kept; tables = t }) (drop (fed .taken) bytes)
     → Leads first p r buffer t
 
 -- after these bytes were read: those left over, and more
 abbrev pub AfterBytes : Pause → Tables → (bytes : List ℕ) → Next → (buffer : List ℕ) → Tables → Type 0
 AfterBytes p t bytes r buffer after =
-    (first : Held) (rest more : List ℕ) → Follows first (p .place) (record { kept = p .kept; tables = t }) rest → bytes ≡ rest ++ more → Leads first p r buffer after
+    (first : Tracker) (rest more : List ℕ) → Follows first (p .place) (record { kept = p .kept; tables = t }) rest → bytes ≡ rest ++ more → Leads first p r buffer after
 
 -- after a read behind those left over
 abbrev pub AfterRead : Pause → Tables → (rest : List ℕ) → Next → (buffer : List ℕ) → Tables → Type 0
-AfterRead p t rest r buffer after = (first : Held) → Follows first (p .place) (record { kept = p .kept; tables = t }) rest → Leads first p r buffer after
+AfterRead p t rest r buffer after = (first : Tracker) → Follows first (p .place) (record { kept = p .kept; tables = t }) rest → Leads first p r buffer after

@@ -15,9 +15,9 @@ ghost use Prim.Native.Nat.{_+_, _-_, _≤_, _<_};
 ghost use lib.Dec.{ltb};
 ghost use lib.ListN.{length, take, drop};
 ghost use Rattle.rules.specs.Answers.{numberOf};
-ghost use Rattle.rules.specs.Layout.{bucketsOf, tablesOf, held};
+ghost use Rattle.rules.specs.Layout.{bucketsOf, tablesOf, tracker};
 ghost use Rattle.text.specs.Text.{refusedLine, curveText};
-ghost use Rattle.feed.specs.Feed.{saidEnding};
+ghost use Rattle.feed.specs.Feed.{endingResult};
 ghost use Rattle.curve.specs.Program.{Fitting, firstSettings, textFrom, textOver, programOf, Stands, Telling, Ready, AfterFed, AfterBytes, AfterRead};
 
 // ---- the input, read in pieces
@@ -89,24 +89,24 @@ fn to_front(buffer: &mut [u8], from: usize, end: usize) -> usize
 // What is printed at the end of the input: bytes that are left over are an incomplete event.
 fn put_end(
     out: &mut [u8],
-    k: Record,
+    kept: Record,
     left: usize,
     place: u64,
     counts: &[u64],
     thresholds: &[u32],
 ) -> usize
     requires { ⌜ (length (now counts) ≤ 1026) × (65536 ≤ length (now out)) ⌝ }
-    ensures { λ r. ⌜ Stands (cond (ltb 0 left) (refusedLine 7 place) (curveText k (bucketsOf (now (counts .entry)) (now (thresholds .entry))))) (now (out .exit)) r ⌝ }
+    ensures { λ r. ⌜ Stands (cond (ltb 0 left) (refusedLine 7 place) (curveText kept (bucketsOf (now (counts .entry)) (now (thresholds .entry))))) (now (out .exit)) r ⌝ }
 {
     if 0 < left {
         return text::put_refused_line(out, 7, place);
     }
-    text::put_curve(out, k, counts, thresholds)
+    text::put_curve(out, kept, counts, thresholds)
 }
 
 // The number of the refusal that feeding ended with, or 0.
 fn refusal_in(ending: Ending) -> u64
-    ensures { λ r. ⌜ r ≡ numberOf (saidEnding ending) ⌝ }
+    ensures { λ r. ⌜ r ≡ numberOf (endingResult ending) ⌝ }
 {
     match ending {
         Ending::Refused(why) => judge::number_of(why),
@@ -185,17 +185,17 @@ fn one_read(
 
 // Feeds the input to its end, and answers the text.
 fn follow(
-    k: Record,
+    kept: Record,
     buffer: &mut [u8],
     locations: &mut [u64],
     counts: &mut [u64],
     thresholds: &mut [u32],
 ) -> Done
     requires { ⌜ (length (now buffer) ≡ 65536) × (length (now counts) ≤ 1026) ⌝ }
-    ensures { λ r. ⌜ Telling (textFrom (held k (now (locations .entry)) (now (counts .entry)) (now (thresholds .entry)))) r (now (buffer .exit)) ⌝ }
+    ensures { λ r. ⌜ Telling (textFrom (tracker kept (now (locations .entry)) (now (counts .entry)) (now (thresholds .entry)))) r (now (buffer .exit)) ⌝ }
 {
     let mut p = Pause {
-        kept: k,
+        kept: kept,
         left: 0,
         place: 0,
         reach: 0xffff_ffff_ffff_ffff,
@@ -231,8 +231,8 @@ fn run(buffer: &mut [u8], locations: &mut [u64], counts: &mut [u64], thresholds:
     requires { ⌜ (length (now buffer) ≡ 65536) × (length (now counts) ≤ 1026) ⌝ }
     ensures { λ r. ⌜ Telling (textOver (tablesOf (now (locations .entry)) (now (counts .entry)) (now (thresholds .entry)))) r (now (buffer .exit)) ⌝ }
 {
-    match start::setup(first_settings(), locations, counts, thresholds) {
-        Started::Ready(k) => follow(k, buffer, locations, counts, thresholds),
+    match setup::setup(first_settings(), locations, counts, thresholds) {
+        Started::Ready(kept) => follow(kept, buffer, locations, counts, thresholds),
         Started::Refused(why) => {
             Done::Text(text::put_refused_line(buffer, judge::number_of(why), 0))
         }

@@ -11,7 +11,7 @@ use Rattle.rules.specs.declared.Settings.{Settings}
 use Rattle.rules.specs.Lists.{keep}
 use Rattle.rules.specs.Settings.{Tables, outOfRange, mostReferences}
 use Rattle.rules.specs.Reference.{under}
-use Rattle.rules.specs.Layout.{Held, hashFor, laid, freshRecord, fresh}
+use Rattle.rules.specs.Layout.{Tracker, hashFor, stored, freshRecord, fresh}
 use Rattle.rules.specs.Conditions.{tooShort}
 use Rattle.rules.specs.Calls.{stepOf}
 use Rattle.rules.specs.History.{recency, different, Largest}
@@ -27,7 +27,7 @@ use Rattle.demands.proofs.Tracking.{threshold, live-list}
 
 -- a run of any history, on any settings in range, with any tables long enough
 pub record Replayed (s : Settings) (past : List ℕ) : Type 0 where
-  pub left : Held
+  pub left : Tracker
   pub run : Run past left
   pub same : left .kept .settings ≡ s
 
@@ -44,7 +44,7 @@ replayed s t r l (x ∷ past) n = more (replayed s t r l past (omega arith))
         let v = invariant (p .run) in
         let q : p .left .kept .numbers .references ≡ mostReferences → ⊥ = λ e. omega (arith, v .references-is) in
         record {
-          left = laid (stepOf x (p .left)) (p .left);
+          left = stored (stepOf x (p .left)) (p .left);
           run = refer (p .run) (refer-accept x (p .left) (accepted past (p .left) v x (ne-eqb _ _ q)));
           same = p .same;
         }

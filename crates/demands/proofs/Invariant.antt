@@ -10,9 +10,10 @@ use Rattle.rules.specs.declared.Record.{Record}
 use Rattle.rules.specs.Settings.{outOfRange, Tables, needed}
 use Rattle.rules.specs.Reference.{under, firstPlace, Reply, skipped, first, again}
 use Rattle.rules.specs.Answers.{gives}
-use Rattle.rules.specs.Layout.{Held, liveOf, sampleOf, hashFor, profileOf, counted, laid, freshTables, freshRecord, fresh}
+use Rattle.rules.specs.Order.{Outcome}
+use Rattle.rules.specs.Layout.{Tracker, liveOf, sampleOf, hashFor, profileOf, counted, stored, freshTables, freshRecord, fresh}
 use Rattle.rules.specs.Conditions.{tooShort, tornRecord, tornAt, tornFor, full}
-use Rattle.rules.specs.Calls.{Beginning, stepOf}
+use Rattle.rules.specs.Calls.{stepOf}
 use Rattle.rules.proofs.Tests.{cases}
 use Rattle.rules.proofs.Tables.{over-front}
 use Rattle.rules.proofs.Bounds.{Whole, whole, untorn, InRange, in-range, all-long, none-short, not-torn}
@@ -20,10 +21,10 @@ use Rattle.rules.proofs.Steps.{Tracked, tracked-fresh, tracked-step}
 use Rattle.rules.proofs.FullRate.{Cut, widths-cut}
 use Rattle.rules.proofs.Fresh.{fresh-long}
 use Rattle.rules.proofs.Clean.{Clean, clean-fresh, clean-step, bucket-needed}
-use Rattle.rules.proofs.Calls.{Begins, setup-begins, restart-begins, Accepted, refer-accept, refer-accepted, sample-laid, left-whole, left-long}
+use Rattle.rules.proofs.Calls.{Begins, setup-begins, restart-begins, Accepted, refer-accept, refer-accepted, sample-stored, left-whole, left-long}
 use Rattle.demands.specs.Runs.{Run, setup, restart, refer, answers}
 
-pub record Invariant (past : List ℕ) (s : Held) : Type 0 where
+pub record Invariant (past : List ℕ) (s : Tracker) : Type 0 where
   pub record-whole : tornRecord (s .kept) ≡ false
   pub tables-long : tooShort (s .kept .settings) (s .tables) ≡ false
   pub tracked : Tracked (hashFor (s .kept .settings)) (s .kept .settings .limit) (s .kept .settings .start) past (sampleOf s)
@@ -51,22 +52,22 @@ invariant-fresh s t e l =
 pub gives-same : {A : Type 0} {a b : A} → gives a ≡ gives b → a ≡ b
 gives-same e = cc
 
-begun-held : {b : Beginning} {k : Record} {s : Held} {u : Tables} → b ≡ record { said = gives k; tables = u } → b ≡ record { said = gives (s .kept); tables = s .tables } → record { kept = k; tables = u } ≡ s
-begun-held {k = k} {s = s} e f =
-    λ i. record { kept = gives-same (ap (λ b. b .said) (sym e ∙ f)) i; tables = ap (λ b. b .tables) (sym e ∙ f) i }
+started-state : {b : Outcome Record Tables} {kept : Record} {s : Tracker} {u : Tables} → b ≡ record { result = gives kept; left = u } → b ≡ record { result = gives (s .kept); left = s .tables } → record { kept = kept; tables = u } ≡ s
+started-state {kept = kept} {s = s} e f =
+    λ i. record { kept = gives-same (ap (λ b. b .result) (sym e ∙ f)) i; tables = ap (λ b. b .left) (sym e ∙ f) i }
 
 -- what a run is begun with
-pub record Fresh (h : Held) : Type 0 where
+pub record Fresh (h : Tracker) : Type 0 where
   pub given : Settings
   pub over : Tables
   pub range : outOfRange given ≡ false
   pub long : tooShort given over ≡ false
   pub is : fresh given over ≡ h
 
-pub fresh-begun : (s : Settings) (t : Tables) (b : Beginning) (h : Held) → Begins s t b → b ≡ record { said = gives (h .kept); tables = h .tables } → Fresh h
-fresh-begun s t b h g e = record { given = s; over = t; range = g .range; long = g .long; is = begun-held (g .is) e }
+pub fresh-started : (s : Settings) (t : Tables) (b : Outcome Record Tables) (h : Tracker) → Begins s t b → b ≡ record { result = gives (h .kept); left = h .tables } → Fresh h
+fresh-started s t b h g e = record { given = s; over = t; range = g .range; long = g .long; is = started-state (g .is) e }
 
-module _ (past : List ℕ) (s : Held) (v : Invariant past s) (x : ℕ) where
+module _ (past : List ℕ) (s : Tracker) (v : Invariant past s) (x : ℕ) where
   abbrev set : Settings
   set = s .kept .settings
 
@@ -96,29 +97,29 @@ module _ (past : List ℕ) (s : Held) (v : Invariant past s) (x : ℕ) where
   counted-one first = refl
   counted-one (again d) = refl
 
-  pub invariant-laid : Accepted x s → Invariant (x ∷ past) (laid (stepOf x s) s)
-  invariant-laid a = record {
+  pub invariant-stored : Accepted x s → Invariant (x ∷ past) (stored (stepOf x s) s)
+  invariant-stored a = record {
     record-whole = left-whole x s a;
     tables-long = left-long x s a;
-    tracked = rw (sample-laid (stepOf x s) s) (tracked-step (hashFor set) (set .limit) (set .start) x past (sampleOf s) (v .tracked) (profileOf set));
+    tracked = rw (sample-stored (stepOf x s) s) (tracked-step (hashFor set) (set .limit) (set .start) x past (sampleOf s) (v .tracked) (profileOf set));
     clean = rw (counted-one (stepOf x s .reply)) (clean-step (hashFor set) (set .limit) (profileOf set) (cut set (bounds .range) .far) x (sampleOf s) (set .start) (s .kept .numbers .references) (bounds .threshold-high) (v .clean));
     live-is = ap length (sym (over-front (stepOf x s .left .live) (s .tables .locations)));
     references-is = counted-one (stepOf x s .reply) ∙ (let q : s .kept .numbers .references + 1 ≡ suc (length past) = omega (arith, v .references-is) in q);
   }
 
 -- by cases on a run, of what holds of a fresh start and is kept by each accepted reference
-pub by-run : (Q : (past : List ℕ) → Held → List Reply → Type 0)
-    → ((h : Held) → Fresh h → Q [] h [])
-    → ((past : List ℕ) (s : Held) (x : ℕ) (rs : List Reply) → Run past s → Accepted x s → Q past s rs → Q (x ∷ past) (laid (stepOf x s) s) (stepOf x s .reply ∷ rs))
-    → {past : List ℕ} {s : Held} (run : Run past s) → Q past s (answers run)
-by-run Q start next (setup given t {s = s} e) = start s (fresh-begun _ t _ s (setup-begins given t (s .kept) (ap (λ b. b .said) e)) e)
-by-run Q start next (restart k t {s = s} e) = start s (fresh-begun _ t _ s (restart-begins k t (s .kept) (ap (λ b. b .said) e)) e)
+pub by-run : (Q : (past : List ℕ) → Tracker → List Reply → Type 0)
+    → ((h : Tracker) → Fresh h → Q [] h [])
+    → ((past : List ℕ) (s : Tracker) (x : ℕ) (rs : List Reply) → Run past s → Accepted x s → Q past s rs → Q (x ∷ past) (stored (stepOf x s) s) (stepOf x s .reply ∷ rs))
+    → {past : List ℕ} {s : Tracker} (run : Run past s) → Q past s (answers run)
+by-run Q start next (setup given t {s = s} e) = start s (fresh-started _ t _ s (setup-begins given t (s .kept) (ap (λ b. b .result) e)) e)
+by-run Q start next (restart k t {s = s} e) = start s (fresh-started _ t _ s (restart-begins k t (s .kept) (ap (λ b. b .result) e)) e)
 by-run Q start next (refer {past = past} {s = s} {after = after} {x = x} {r = r} run e) =
-    let a = refer-accepted x s r (ap (λ o. o .said) e) in
+    let a = refer-accepted x s r (ap (λ o. o .result) e) in
     let q = sym (refer-accept x s a) ∙ e in
-    subst₂ (λ h z. Q (x ∷ past) h (z ∷ answers run)) (ap (λ o. o .left) q) (gives-same (ap (λ o. o .said) q)) (next past s x (answers run) run a (by-run Q start next run))
+    subst₂ (λ h z. Q (x ∷ past) h (z ∷ answers run)) (ap (λ o. o .left) q) (gives-same (ap (λ o. o .result) q)) (next past s x (answers run) run a (by-run Q start next run))
 
-pub invariant : {past : List ℕ} {s : Held} → Run past s → Invariant past s
+pub invariant : {past : List ℕ} {s : Tracker} → Run past s → Invariant past s
 invariant run = by-run (λ past s rs. Invariant past s)
     (λ h f. subst (Invariant []) (f .is) (invariant-fresh (f .given) (f .over) (f .range) (f .long)))
-    (λ past s x rs run a v. invariant-laid past s v x a) run
+    (λ past s x rs run a v. invariant-stored past s v x a) run

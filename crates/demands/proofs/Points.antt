@@ -7,10 +7,10 @@ use native.Mathlib.Omega.{arith}
 use lib.Dec.{eqb}
 use lib.ListN.{length}
 use borrow.Author.Tests.{eq-eqb, ne-eqb, le-ltb}
-use Rattle.rules.specs.Settings.{P, Histogram, needed}
+use Rattle.rules.specs.Settings.{Histogram, needed, fullRate}
 use Rattle.rules.specs.Curve.{sumTo, totalOf}
 use Rattle.rules.specs.Answers.{gives}
-use Rattle.rules.specs.Layout.{Held, sampleOf, hashFor, profileOf}
+use Rattle.rules.specs.Layout.{Tracker, sampleOf, hashFor, profileOf}
 use Rattle.rules.specs.Conditions.{bucketsTooShort, anyTorn, tornTo}
 use Rattle.rules.specs.Calls.{pointOf}
 use Rattle.rules.specs.History.{recency, Largest}
@@ -29,7 +29,7 @@ use Rattle.demands.specs.Statements.{FullRate, OnlyPointOrEmpty}
 use Rattle.demands.proofs.Invariant.{invariant, by-run, cut}
 
 -- clean buckets are not torn at a report
-none-torn : (n start references t : ℕ) (g : Histogram) → start ≤ P → Clean n start references t g → (m : ℕ) → m ≤ n → anyTorn references t m g ≡ false
+none-torn : (n start references t : ℕ) (g : Histogram) → start ≤ fullRate → Clean n start references t g → (m : ℕ) → m ≤ n → anyTorn references t m g ≡ false
 unfolding anyTorn
 none-torn n start references t g p c zero h = refl
 none-torn n start references t g p c (suc m) h = or-neither (none-torn n start references t g p c m (omega arith)) (not-torn _ _ _ _ (record {
@@ -59,18 +59,18 @@ recency-grows : (x : ℕ) (past : List ℕ) → length (recency past) ≤ length
 recency-grows x past = length-without x (recency past) (recency-once past)
 
 -- in such a run the histogram is the caches'
-ExactIn : (past : List ℕ) → Held → Type 0
-ExactIn past s = s .kept .settings .start ≡ P → length (recency past) ≤ s .kept .settings .limit
+ExactIn : (past : List ℕ) → Tracker → Type 0
+ExactIn past s = s .kept .settings .start ≡ fullRate → length (recency past) ≤ s .kept .settings .limit
     → Exact (profileOf (s .kept .settings)) (λ n. hits n past) (length past) (s .tables .histogram)
 
-exact : {past : List ℕ} {s : Held} → Run past s → ExactIn past s
+exact : {past : List ℕ} {s : Tracker} → Run past s → ExactIn past s
 unfolding ExactIn
 exact run = by-run (λ past s rs. ExactIn past s)
     (λ h f. subst (ExactIn []) (f .is) (λ p n. exact-fresh (f .given) (f .over) (all-long (f .given) (f .over) (f .long) .buckets) p))
     (λ past s x rs run a e p n.
     let v = invariant run in
     let set = s .kept .settings in
-    let k : Tracked (hashFor set) (set .limit) P past (sampleOf s) = subst (λ z. Tracked (hashFor set) (set .limit) z past (sampleOf s)) p (v .tracked) in
+    let k : Tracked (hashFor set) (set .limit) fullRate past (sampleOf s) = subst (λ z. Tracked (hashFor set) (set .limit) z past (sampleOf s)) p (v .tracked) in
     let m : length (recency past) ≤ set .limit = omega (arith, recency-grows x past) in
     exact-step (hashFor set) (hash-below (set .hashing)) (set .limit) (profileOf set) (cut set (whole (s .kept) (v .record-whole) .range)) x past (sampleOf s) k m (length past) (e p m)) run
 
@@ -81,7 +81,7 @@ full-rate past s run p n k l =
     let set = s .kept .settings in
     let g = s .tables .histogram in
     let e = exact run p n in
-    let still : s .kept .threshold ≡ P =
+    let still : s .kept .threshold ≡ fullRate =
     threshold-stays (hashFor set) (hash-below (set .hashing)) (set .limit) past (s .kept .threshold) (subst (λ z. Largest (hashFor set) (set .limit) z past (s .kept .threshold)) p (v .tracked .threshold-is)) n in
     let total : totalOf (s .kept .threshold) (set .buckets) g ≡ 256 * length past =
     ap (λ t. sumTo t (needed (set .buckets)) g) still ∙ exact-report (profileOf set) _ _ g e (needed (set .buckets)) (omega arith) ∙ e .total in

@@ -2,7 +2,9 @@
 use mathlib.Core.Path.{_≡_, sym}
 use lib.ListN.{drop}
 use Rattle.rules.specs.declared.Written.the-variants as written
-use Rattle.rules.specs.Events.{eventLength, writeOf, afterWritten}
+use Rattle.rules.specs.Answers.{writtenResult}
+use Rattle.rules.specs.Order.{outcome}
+use Rattle.rules.specs.Events.{eventLength, writeOf}
 use Rattle.rules.proofs.Events.{write-filled}
 use Rattle.rules.proofs.Round.{round}
 use Rattle.demands.specs.Statements.{ReadBack, WrittenReadBack}
@@ -12,6 +14,6 @@ read-back e f rest = round e rest f
 
 pub written-read-back : WrittenReadBack
 written-read-back e f buffer n said =
-    let w : afterWritten (written.Filled n) (writeOf e buffer .buffer) ≡ writeOf e buffer = λ i. record { said = sym said i; buffer = writeOf e buffer .buffer } in
-    let k = write-filled e buffer n (writeOf e buffer .buffer) w in
+    let w : outcome (writtenResult (written.Filled n)) (writeOf e buffer .left) ≡ writeOf e buffer = λ i. record { result = sym said i; left = writeOf e buffer .left } in
+    let k = write-filled e buffer n (writeOf e buffer .left) w in
     rw (k .1, k .0) (round e (drop (eventLength e) buffer) f)

@@ -14,59 +14,54 @@ use Rattle.rules.specs.declared.Event.the-variants.{Location, Span, Restart, Se
 use Rattle.rules.specs.Lists.{over}
 use Rattle.rules.specs.Settings.{Tables, withDefaults, outOfRange}
 use Rattle.rules.specs.Reference.{Reply, under, firstPlace, bucketFor, step}
-use Rattle.rules.specs.Curve.{curvePoint, plotPoint}
 use Rattle.rules.specs.Answers.{refused, gives}
 use Rattle.rules.specs.Order.{Judged, _when_, says, leaves}
-use Rattle.rules.specs.Events.{settingsOf, eventBytes, eventLength, writeOrder, writeOf}
-use Rattle.rules.specs.Layout.{Held, hashFor, profileOf, counted, laid, freshBuckets, freshTables, freshRecord, fresh}
+use Rattle.rules.specs.Events.{settingsOf}
+use Rattle.rules.specs.Layout.{Tracker, hashFor, profileOf, counted, stored, freshBuckets, freshTables, freshRecord, fresh}
 use Rattle.rules.specs.Conditions.{bucketsTooShort, tooShort, tornRecord, tornAt, tornFor, full, stale}
-use Rattle.rules.specs.Calls.{setupOrder, setupOf, restartOrder, restartOf, stepOf, referOrder, referOf, pointOrder, pointOf, onGives, startedOver, goingOn, referAll, applyOf}
+use Rattle.rules.specs.Calls.{setupOrder, setupOf, restartOrder, restartOf, stepOf, referOrder, referOf, startedOver, goingOn, referAll, applyOf}
 use Rattle.rules.proofs.Tests.{cases, or-left, or-right}
 use Rattle.rules.proofs.Order.{not-both, either, says-given, says-refused, leaves-was, leaves-both, says-some}
-use Rattle.rules.proofs.Calls.{sample-laid, point-stale}
-use Rattle.demands.specs.Refusing.{Untouched, InOrder, PlotInOrder, NeverZero, StaleByName, Agree, Alike, AgreeAgain}
+use Rattle.rules.proofs.Calls.{sample-stored, point-stale}
+use Rattle.demands.specs.Refusing.{Untouched, InOrder, NeverZero, StaleByName, Agree, Alike, AgreeAgain}
 
 -- ---- an event has the order of the call that it stands for
 
-abbrev applyOrder : Event → Held → List Judged
+abbrev applyOrder : Event → Tracker → List Judged
 applyOrder (Location x) s = referOrder x s
 applyOrder (Span offset length) s = cond (eqb length 0) [] (referOrder (offset / 4096) s)
 applyOrder Restart s = restartOrder (s .kept) (s .tables)
 applyOrder (Setup b) s = setupOrder (settingsOf b) (s .tables)
 
-abbrev applyAfter : Event → Held → Held
-applyAfter (Location x) s = laid (stepOf x s) s
-applyAfter (Span offset length) s = cond (eqb length 0) s (laid (stepOf (offset / 4096) s) s)
+abbrev applyAfter : Event → Tracker → Tracker
+applyAfter (Location x) s = stored (stepOf x s) s
+applyAfter (Span offset length) s = cond (eqb length 0) s (stored (stepOf (offset / 4096) s) s)
 applyAfter Restart s = fresh (s .kept .settings) (s .tables)
 applyAfter (Setup b) s = fresh (withDefaults (settingsOf b)) (s .tables)
 
-one-is : (order : List Judged) (r : Reply) (l : Held) → goingOn (says order r) l (record { said = gives tt; left = l }) ≡ record { said = says order tt; left = l }
+one-is : (order : List Judged) (r : Reply) (l : Tracker) → goingOn (says order r) l (record { result = gives tt; left = l }) ≡ record { result = says order tt; left = l }
 one-is [] r l = refl
 one-is (j ∷ order) r l = cases (j .holds) (λ h. rw h) (λ h. rw h (one-is order r l))
 
-started-is : (order : List Judged) (k r : Record) (t u : Tables) → startedOver k (says order r) (leaves order t u)
-    ≡ record { said = says order tt; left = leaves order (record { kept = k; tables = t }) (record { kept = r; tables = u }) }
-started-is [] k r t u = refl
-started-is (j ∷ order) k r t u = cases (j .holds) (λ h. rw h) (λ h. rw h (started-is order k r t u))
+started-is : (order : List Judged) (kept r : Record) (t u : Tables) → startedOver kept (says order r) (leaves order t u)
+    ≡ record { result = says order tt; left = leaves order (record { kept = kept; tables = t }) (record { kept = r; tables = u }) }
+started-is [] kept r t u = refl
+started-is (j ∷ order) kept r t u = cases (j .holds) (λ h. rw h) (λ h. rw h (started-is order kept r t u))
 
-apply-is : (e : Event) (s : Held) → applyOf e s ≡ record { said = says (applyOrder e s) tt; left = leaves (applyOrder e s) s (applyAfter e s) }
+apply-is : (e : Event) (s : Tracker) → applyOf e s ≡ record { result = says (applyOrder e s) tt; left = leaves (applyOrder e s) s (applyAfter e s) }
 unfolding applyOf referAll referOf restartOf setupOf
-apply-is (Location x) s = one-is (referOrder x s) (stepOf x s .reply) (leaves (referOrder x s) s (laid (stepOf x s) s))
+apply-is (Location x) s = one-is (referOrder x s) (stepOf x s .reply) (leaves (referOrder x s) s (stored (stepOf x s) s))
 apply-is (Span offset length) s = cases (eqb length 0) (λ z. rw z)
-    (λ z. rw z (let x = offset / 4096 in one-is (referOrder x s) (stepOf x s .reply) (leaves (referOrder x s) s (laid (stepOf x s) s))))
+    (λ z. rw z (let x = offset / 4096 in one-is (referOrder x s) (stepOf x s .reply) (leaves (referOrder x s) s (stored (stepOf x s) s))))
 apply-is Restart s = let set = s .kept .settings in started-is (restartOrder (s .kept) (s .tables)) (s .kept) (freshRecord set) (s .tables) (freshTables set (s .tables))
 apply-is (Setup b) s = let set = withDefaults (settingsOf b) in started-is (setupOrder (settingsOf b) (s .tables)) (s .kept) (freshRecord set) (s .tables) (freshTables set (s .tables))
 
 -- ---- (a)
 
 pub untouched : Untouched
-unfolding setupOf restartOf referOf writeOf
 untouched = record {
-  by-setup = λ given t. let set = withDefaults given in leaves-was (setupOrder given t) (freshRecord set) t (freshTables set t);
-  by-restart = λ k t. leaves-was (restartOrder k t) (freshRecord (k .settings)) t (freshTables (k .settings) t);
-  by-refer = λ x s. leaves-was (referOrder x s) (stepOf x s .reply) s (laid (stepOf x s) s);
-  by-apply = λ e s n r. ap (λ o. o .left) (apply-is e s) ∙ leaves-was (applyOrder e s) tt s (applyAfter e s) n (sym (ap (λ o. o .said) (apply-is e s)) ∙ r);
-  by-write = λ e buffer. leaves-was (writeOrder e buffer) (eventLength e) buffer (over (eventBytes e) buffer);
+  by-order = leaves-was;
+  by-apply = λ e s n r. ap (λ o. o .left) (apply-is e s) ∙ leaves-was (applyOrder e s) tt s (applyAfter e s) n (sym (ap (λ o. o .result) (apply-is e s)) ∙ r);
 }
 
 -- ---- (b)
@@ -79,14 +74,6 @@ in-order = record {
   always-so = λ order a n x. says-refused (x .place) order a (x .first) ∙ ap refused (x .numbered);
   or-given = says-given;
 }
-
-on-gives : {A B : Type 0} (f : A → B) (order : List Judged) (a : A) → onGives f (says order a) ≡ says order (f a)
-on-gives f [] a = refl
-on-gives f (j ∷ order) a = cases (j .holds) (λ h. rw h) (λ h. rw h (on-gives f order a))
-
-pub plot-in-order : PlotInOrder
-unfolding pointOf
-plot-in-order k believed n g = on-gives plotPoint (pointOrder k believed n g) (curvePoint (profileOf (k .settings)) (k .threshold) n g)
 
 pub never-zero : NeverZero
 never-zero A order a = says-some order a
@@ -108,7 +95,7 @@ stale-by-name k believed n g e f d = point-stale k believed n g e f differs
 over-lengths : (l a b : List ℕ) → length a ≡ length b → length (over l a) ≡ length (over l b)
 over-lengths l a b e = simp (length-append, length-drop) (ap (λ n. length l + (n - length l)) e)
 
-module _ (s t : Held) (a : Agree s t) where
+module _ (s t : Tracker) (a : Agree s t) where
   same-settings : s .kept .settings ≡ t .kept .settings
   same-settings = ap (λ k. k .settings) (a .same-record)
 
@@ -124,11 +111,11 @@ module _ (s t : Held) (a : Agree s t) where
   same-torn x = λ i. let k = a .same-record i in
       cond (under (hashFor (k .settings)) (k .threshold) x) (tornAt (k .numbers .references) (k .threshold) (bucketFor (profileOf (k .settings)) (k .threshold) (firstPlace x (a .same-list i))) (a .same-buckets i)) false
 
-  laid-agree : (x : ℕ) → Agree (laid (stepOf x s) s) (laid (stepOf x t) t)
-  laid-agree x = record {
+  stored-agree : (x : ℕ) → Agree (stored (stepOf x s) s) (stored (stepOf x t) t)
+  stored-agree x = record {
     same-record = λ i. record { settings = a .same-record i .settings; threshold = same-step x i .left .threshold; live = length (same-step x i .left .live); numbers = counted (same-step x i .reply) (a .same-record i .numbers) };
     same-buckets = ap (λ r. r .left .histogram) (same-step x);
-    same-list = ap (λ z. z .live) (sample-laid (stepOf x s) s) ∙ ap (λ r. r .left .live) (same-step x) ∙ sym (ap (λ z. z .live) (sample-laid (stepOf x t) t));
+    same-list = ap (λ z. z .live) (sample-stored (stepOf x s) s) ∙ ap (λ r. r .left .live) (same-step x) ∙ sym (ap (λ z. z .live) (sample-stored (stepOf x t) t));
     same-length = ap (λ r. length (over (r .left .live) (s .tables .locations))) (same-step x) ∙ over-lengths (stepOf x t .left .live) (s .tables .locations) (t .tables .locations) (a .same-length);
   }
 
@@ -159,13 +146,13 @@ module _ (s t : Held) (a : Agree s t) where
   apply-order (Setup b) = setup-order (settingsOf b)
 
   apply-after : (e : Event) → Agree (applyAfter e s) (applyAfter e t)
-  apply-after (Location x) = laid-agree x
-  apply-after (Span offset length) = cases (eqb length 0) (λ z. rw z a) (λ z. rw z (laid-agree (offset / 4096)))
+  apply-after (Location x) = stored-agree x
+  apply-after (Span offset length) = cases (eqb length 0) (λ z. rw z a) (λ z. rw z (stored-agree (offset / 4096)))
   apply-after Restart = fresh-alike _ _ same-settings
   apply-after (Setup b) = fresh-alike _ _ refl
 
   -- and so agree in what they leave
-  left-agree : (order order' : List Judged) (u v : Held) → order ≡ order' → Agree u v → Agree (leaves order s u) (leaves order' t v)
+  left-agree : (order order' : List Judged) (u v : Tracker) → order ≡ order' → Agree u v → Agree (leaves order s u) (leaves order' t v)
   left-agree order order' u v e b = leaves-both Agree order order' s u t v e a b
 
   buckets-agree : (order order' : List Judged) (set set' : Settings) → order ≡ order' → set ≡ set'
@@ -177,12 +164,12 @@ module _ (s t : Held) (a : Agree s t) where
   unfolding setupOf restartOf referOf
   alike = record {
     refer-says = λ x i. says (refer-order x i) (same-step x i .reply);
-    refer-leaves = λ x. left-agree (referOrder x s) (referOrder x t) _ _ (refer-order x) (laid-agree x);
+    refer-leaves = λ x. left-agree (referOrder x s) (referOrder x t) _ _ (refer-order x) (stored-agree x);
     restart-says = λ i. says (restart-order i) (freshRecord (same-settings i));
     restart-leaves = buckets-agree _ _ _ _ restart-order same-settings;
     setup-says = λ given i. says (setup-order given i) (freshRecord (withDefaults given));
     setup-leaves = λ given. buckets-agree _ _ (withDefaults given) _ (setup-order given) refl;
-    apply-says = λ e. ap (λ o. o .said) (apply-is e s) ∙ ap (λ l. says l tt) (apply-order e) ∙ sym (ap (λ o. o .said) (apply-is e t));
+    apply-says = λ e. ap (λ o. o .result) (apply-is e s) ∙ ap (λ l. says l tt) (apply-order e) ∙ sym (ap (λ o. o .result) (apply-is e t));
     apply-leaves = λ e. subst₂ Agree (sym (ap (λ o. o .left) (apply-is e s))) (sym (ap (λ o. o .left) (apply-is e t))) (left-agree _ _ _ _ (apply-order e) (apply-after e));
   }
 

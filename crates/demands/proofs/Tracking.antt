@@ -6,12 +6,14 @@ use native.Mathlib.Omega.{arith}
 use lib.Dec.{eqb}
 use lib.ListN.{length}
 use Rattle.rules.specs.declared.Settings.{Settings}
-use Rattle.rules.specs.Settings.{mostReferences}
-use Rattle.rules.specs.Reference.{Reply, skipped, first, again}
 use Rattle.rules.specs.Lists.{has}
-use Rattle.rules.specs.Answers.{gives}
-use Rattle.rules.specs.Layout.{Held, sampleOf, hashFor, profileOf, counted}
-use Rattle.rules.specs.Calls.{stepOf, referOf}
+use Rattle.rules.specs.Settings.{mostReferences, Tables, withDefaults}
+use Rattle.rules.specs.Reference.{Reply, skipped, first, again}
+use Rattle.rules.specs.Answers.{gives, refused}
+use Rattle.rules.specs.Order.{leaves, says, Judged}
+use Rattle.rules.specs.Layout.{Tracker, sampleOf, hashFor, profileOf, counted, freshTables, stored, freshRecord}
+use Rattle.rules.specs.Calls.{stepOf, referOf, referOrder, setupOf, restartOf, setupOrder, restartOrder}
+use Rattle.rules.specs.declared.Settings.{Settings}
 use Rattle.rules.proofs.Tests.{cases}
 use Rattle.rules.proofs.Steps.{replied-skipped, replied-first, replied-again}
 use Rattle.rules.proofs.Calls.{refer-accept, refer-accepted, refer-full}
@@ -27,7 +29,7 @@ pub live-list : LiveList
 live-list past s run = invariant run .tracked .live-is
 
 -- the step's answer is the history's
-step-reply : (past : List ℕ) (s : Held) (x : ℕ) → Run past s → stepOf x s .reply ≡ historyReply s past x
+step-reply : (past : List ℕ) (s : Tracker) (x : ℕ) → Run past s → stepOf x s .reply ≡ historyReply s past x
 step-reply past s x run =
     let h = hashFor (s .kept .settings) in
     let limit = s .kept .settings .limit in
@@ -41,11 +43,11 @@ step-reply past s x run =
     (λ e. rw e (replied-skipped h limit start x past (sampleOf s) k f e))
 
 -- an accepted reference answers the step's reply
-said-step : (s after : Held) (x : ℕ) (r : Reply) → referOf x s ≡ record { said = gives r; left = after } → r ≡ stepOf x s .reply
-said-step s after x r e = gives-same (ap (λ o. o .said) (sym e ∙ refer-accept x s (refer-accepted x s r (ap (λ o. o .said) e))))
+reply-step : (s after : Tracker) (x : ℕ) (r : Reply) → referOf x s ≡ record { result = gives r; left = after } → r ≡ stepOf x s .reply
+reply-step s after x r e = gives-same (ap (λ o. o .result) (sym e ∙ refer-accept x s (refer-accepted x s r (ap (λ o. o .result) e))))
 
 pub whole-answers : Answers
-whole-answers past s after x r run e = said-step s after x r e ∙ step-reply past s x run
+whole-answers past s after x r run e = reply-step s after x r e ∙ step-reply past s x run
 
 -- sampled rises where the answer is not Skipped
 sampled-more : (r : Reply) (n : Rattle.rules.specs.declared.Numbers.Numbers) (rs : List Reply) → n .sampled ≡ sampledIn rs → counted r n .sampled ≡ sampledIn (r ∷ rs)
@@ -53,7 +55,7 @@ sampled-more skipped n rs e = e
 sampled-more first n rs e = omega arith
 sampled-more (again d) n rs e = omega arith
 
-sampled-is : {past : List ℕ} {s : Held} (run : Run past s) → s .kept .numbers .sampled ≡ sampledIn (answers run)
+sampled-is : {past : List ℕ} {s : Tracker} (run : Run past s) → s .kept .numbers .sampled ≡ sampledIn (answers run)
 sampled-is run = by-run (λ past s rs. s .kept .numbers .sampled ≡ sampledIn rs)
     (λ h f. ap (λ z. z .kept .numbers .sampled) (sym (f .is)))
     (λ past s x rs run a e. sampled-more (stepOf x s .reply) (s .kept .numbers) rs e) run
@@ -71,7 +73,7 @@ only-full past s x run =
     cases (eqb (length past) mostReferences)
     (λ e. rw e (refer-full x s (v .record-whole) (v .tables-long) (ap (λ n. eqb n mostReferences) (v .references-is) ∙ e)))
     (λ e. rw e (let q = refer-accept x s (accepted past s v x (ap (λ n. eqb n mostReferences) (v .references-is) ∙ e)) in
-    λ i. record { said = (ap (λ o. o .said) q ∙ ap gives (step-reply past s x run)) i; left = referOf x s .left }))
+    λ i. record { result = (ap (λ o. o .result) q ∙ ap gives (step-reply past s x run)) i; left = referOf x s .left }))
 
 pub bounds-hold : Bounds
 bounds-hold past s run j h = let c = invariant run .clean in record {
@@ -83,11 +85,16 @@ bounds-hold past s run j h = let c = invariant run .clean in record {
 }
 
 pub refused-anywhere : RefusedAnywhere
+unfolding referOf restartOf setupOf
 refused-anywhere past s run = record {
-  by-refer = λ x n e. subst (Run past) (sym (untouched .by-refer x s n e)) run;
-  by-restart = λ n e. unmoved (untouched .by-restart (s .kept) (s .tables) n e);
-  by-setup = λ given n e. unmoved (untouched .by-setup given (s .tables) n e);
+  by-refer = λ x n e. subst (Run past) (sym (untouched .by-order (referOrder x s) (stepOf x s .reply) s (stored (stepOf x s) s) n e)) run;
+  by-restart = λ n e. unmoved (started (restartOrder (s .kept) (s .tables)) (s .kept .settings) n e);
+  by-setup = λ given n e. unmoved (started (setupOrder given (s .tables)) (withDefaults given) n e);
 }
   where
-    unmoved : {t : Rattle.rules.specs.Settings.Tables} → t ≡ s .tables → Run past (record { kept = s .kept; tables = t })
+    started : (order : List Judged) (set : Settings) (n : ℕ) → says order (freshRecord set) ≡ refused n
+        → leaves order (s .tables) (freshTables set (s .tables)) ≡ s .tables
+    started order set n e = untouched .by-order order (freshRecord set) (s .tables) (freshTables set (s .tables)) n e
+
+    unmoved : {t : Tables} → t ≡ s .tables → Run past (record { kept = s .kept; tables = t })
     unmoved e = subst (λ z. Run past (record { kept = s .kept; tables = z })) (sym e) run

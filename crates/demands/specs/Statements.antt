@@ -8,19 +8,19 @@ use lib.ListN.{length}
 use Rattle.rules.specs.declared.Settings.{Settings}
 use Rattle.rules.specs.declared.Event.{Event}
 use Rattle.rules.specs.Lists.{keep, has, upto}
-use Rattle.rules.specs.Settings.{P, needed, mostReferences}
+use Rattle.rules.specs.Settings.{needed, mostReferences, fullRate}
 use Rattle.rules.specs.Reference.{Reply, skipped, first, again, countAt, thresholdAt}
 use Rattle.rules.specs.Curve.{rawTo, totalOf, curvePoint}
 use Rattle.rules.specs.Answers.{refused, gives}
 use Rattle.rules.specs.Events.{eventBytes, eventLength, Fits, readOf, writeOf}
-use Rattle.rules.specs.Layout.{Held, liveOf, hashFor, profileOf}
+use Rattle.rules.specs.Layout.{Tracker, liveOf, hashFor, profileOf}
 use Rattle.rules.specs.Calls.{setupOf, restartOf, referOf, ownPoint}
 use Rattle.rules.specs.History.{recency, distance, Largest}
 use Rattle.rules.specs.Cache.{hits}
 use Rattle.demands.specs.Runs.{Run, answers, sampledIn}
 
 -- the hash of a location is below the threshold in force
-abbrev pub inForce : Held → ℕ → Bool
+abbrev pub inForce : Tracker → ℕ → Bool
 inForce s x = ltb (hashFor (s .kept .settings) x) (s .kept .threshold)
 
 -- ---- demand 3
@@ -28,45 +28,45 @@ inForce s x = ltb (hashFor (s .kept .settings) x) (s .kept .threshold)
 -- "However often the threshold fell, it is the largest whole number, not above the starting one, below which at most the limit of
 -- different referenced locations hash."
 abbrev pub Threshold : Type 0
-Threshold = (past : List ℕ) (s : Held) → Run past s
+Threshold = (past : List ℕ) (s : Tracker) → Run past s
     → Largest (hashFor (s .kept .settings)) (s .kept .settings .limit) (s .kept .settings .start) past (s .kept .threshold)
 
 -- "The live list is exactly those locations, latest first,
 abbrev pub LiveList : Type 0
-LiveList = (past : List ℕ) (s : Held) → Run past s → liveOf s ≡ keep (inForce s) (recency past)
+LiveList = (past : List ℕ) (s : Tracker) → Run past s → liveOf s ≡ keep (inForce s) (recency past)
 
 -- as if nothing else had been tracked.": it is the live list of a run, on the same settings, of just the references that hash below it
-pub record Alone (past : List ℕ) (s : Held) : Type 0 where
-  pub other : Held
+pub record Alone (past : List ℕ) (s : Tracker) : Type 0 where
+  pub other : Tracker
   pub run : Run (keep (inForce s) past) other
   pub same-settings : other .kept .settings ≡ s .kept .settings
   pub same-list : liveOf other ≡ liveOf s
 
 abbrev pub NothingElse : Type 0
-NothingElse = (past : List ℕ) (s : Held) → Run past s → Alone past s
+NothingElse = (past : List ℕ) (s : Tracker) → Run past s → Alone past s
 
 -- "Each distance answered is the number of different other locations, hashing below the threshold then in force, referenced since that
 -- location's previous reference.": the whole answer is the history's
-abbrev pub historyReply : Held → List ℕ → ℕ → Reply
+abbrev pub historyReply : Tracker → List ℕ → ℕ → Reply
 historyReply s past x = cond (inForce s x) (cond (has x past) (again (distance (inForce s) x past)) first) skipped
 
 abbrev pub Answers : Type 0
-Answers = (past : List ℕ) (s after : Held) (x : ℕ) (r : Reply) → Run past s → referOf x s ≡ record { said = gives r; left = after } → r ≡ historyReply s past x
+Answers = (past : List ℕ) (s after : Tracker) (x : ℕ) (r : Reply) → Run past s → referOf x s ≡ record { result = gives r; left = after } → r ≡ historyReply s past x
 
 -- references is the number of references since the start, sampled of those answered Again or First, live the list's length
-pub record Numbered (past : List ℕ) (s : Held) (replies : List Reply) : Type 0 where
+pub record Numbered (past : List ℕ) (s : Tracker) (replies : List Reply) : Type 0 where
   pub references-is : s .kept .numbers .references ≡ length past
   pub sampled-is : s .kept .numbers .sampled ≡ sampledIn replies
   pub live-is : s .kept .live ≡ length (liveOf s)
 
 abbrev pub Numbers : Type 0
-Numbers = (past : List ℕ) (s : Held) (run : Run past s) → Numbered past s (answers run)
+Numbers = (past : List ℕ) (s : Tracker) (run : Run past s) → Numbered past s (answers run)
 
 -- ---- demand 2
 
 -- "In a run from a fresh start at full rate, record and tables untouched, with the sample limit never exceeded, each point's hits, in the
 -- rules' count units, are exactly those of a least-recently-used cache of that size fed the same trace."
-pub record Exactly (past : List ℕ) (s : Held) (k : ℕ) : Type 0 where
+pub record LikeLru (past : List ℕ) (s : Tracker) (k : ℕ) : Type 0 where
   pub some-made : 0 < length past → ownPoint (s .kept) k (s .tables .histogram) ≡ gives (record {
     size = k * s .kept .settings .width;
     hits = 256 * hits (k * s .kept .settings .width) past;
@@ -76,34 +76,34 @@ pub record Exactly (past : List ℕ) (s : Held) (k : ℕ) : Type 0 where
   pub none-made : past ≡ [] → ownPoint (s .kept) k (s .tables .histogram) ≡ refused 9
 
 abbrev pub FullRate : Type 0
-FullRate = (past : List ℕ) (s : Held) → Run past s → s .kept .settings .start ≡ P → length (recency past) ≤ s .kept .settings .limit
-    → (k : ℕ) → k ≤ s .kept .settings .buckets → Exactly past s k
+FullRate = (past : List ℕ) (s : Tracker) → Run past s → s .kept .settings .start ≡ fullRate → length (recency past) ≤ s .kept .settings .limit
+    → (k : ℕ) → k ≤ s .kept .settings .buckets → LikeLru past s k
 
 -- "Trace events written are read back the same.": with their length, any bytes behind them
 abbrev pub ReadBack : Type 0
 ReadBack = (e : Event) → Fits e → (rest : List ℕ) → readOf (eventBytes e ++ rest) ≡ gives (record { event = e; taken = eventLength e })
 
 abbrev pub WrittenReadBack : Type 0
-WrittenReadBack = (e : Event) → Fits e → (buffer : List ℕ) (n : ℕ) → writeOf e buffer .said ≡ gives n
-    → readOf (writeOf e buffer .buffer) ≡ gives (record { event = e; taken = n })
+WrittenReadBack = (e : Event) → Fits e → (buffer : List ℕ) (n : ℕ) → writeOf e buffer .result ≡ gives n
+    → readOf (writeOf e buffer .left) ≡ gives (record { event = e; taken = n })
 
 -- ---- clean runs
 
 -- a reference is refused only when Full, and then it is
 abbrev pub OnlyFull : Type 0
-OnlyFull = (past : List ℕ) (s : Held) (x : ℕ) → Run past s
-    → referOf x s ≡ cond (eqb (length past) mostReferences) (record { said = refused 4; left = s }) (record { said = gives (historyReply s past x); left = referOf x s .left })
+OnlyFull = (past : List ℕ) (s : Tracker) (x : ℕ) → Run past s
+    → referOf x s ≡ cond (eqb (length past) mostReferences) (record { result = refused 4; left = s }) (record { result = gives (historyReply s past x); left = referOf x s .left })
 
 -- a point under the record's own shape is refused only 6 or 9, exactly on their conditions
 abbrev pub OnlyPointOrEmpty : Type 0
-OnlyPointOrEmpty = (past : List ℕ) (s : Held) (k : ℕ) → Run past s
+OnlyPointOrEmpty = (past : List ℕ) (s : Tracker) (k : ℕ) → Run past s
     → ownPoint (s .kept) k (s .tables .histogram)
     ≡ cond (ltb (s .kept .settings .buckets) k) (refused 6)
     (cond (eqb (totalOf (s .kept .threshold) (s .kept .settings .buckets) (s .tables .histogram)) 0) (refused 9)
     (gives (curvePoint (profileOf (s .kept .settings)) (s .kept .threshold) k (s .tables .histogram))))
 
 -- every bucket threshold is at least 1 and between T and T0, and counts stay within their bounds
-pub record Bounded (s : Held) (j : ℕ) : Type 0 where
+pub record Bounded (s : Tracker) (j : ℕ) : Type 0 where
   pub at-least-one : 0 < thresholdAt j (s .tables .histogram)
   pub not-below : s .kept .threshold ≤ thresholdAt j (s .tables .histogram)
   pub not-above : thresholdAt j (s .tables .histogram) ≤ s .kept .settings .start
@@ -111,16 +111,16 @@ pub record Bounded (s : Held) (j : ℕ) : Type 0 where
   pub raw-high : rawTo (needed (s .kept .settings .buckets)) (s .tables .histogram) ≤ 256 * s .kept .numbers .references
 
 abbrev pub Bounds : Type 0
-Bounds = (past : List ℕ) (s : Held) → Run past s → (j : ℕ) → j < needed (s .kept .settings .buckets) → Bounded s j
+Bounds = (past : List ℕ) (s : Tracker) → Run past s → (j : ℕ) → j < needed (s .kept .settings .buckets) → Bounded s j
 
 -- a refused call leaves the run what it was, so that refused calls may stand anywhere in it
-pub record Unmoved (past : List ℕ) (s : Held) : Type 0 where
-  pub by-refer : (x n : ℕ) → referOf x s .said ≡ refused n → Run past (referOf x s .left)
-  pub by-restart : (n : ℕ) → restartOf (s .kept) (s .tables) .said ≡ refused n → Run past (record { kept = s .kept; tables = restartOf (s .kept) (s .tables) .tables })
-  pub by-setup : (given : Settings) (n : ℕ) → setupOf given (s .tables) .said ≡ refused n → Run past (record { kept = s .kept; tables = setupOf given (s .tables) .tables })
+pub record Unmoved (past : List ℕ) (s : Tracker) : Type 0 where
+  pub by-refer : (x n : ℕ) → referOf x s .result ≡ refused n → Run past (referOf x s .left)
+  pub by-restart : (n : ℕ) → restartOf (s .kept) (s .tables) .result ≡ refused n → Run past (record { kept = s .kept; tables = restartOf (s .kept) (s .tables) .left })
+  pub by-setup : (given : Settings) (n : ℕ) → setupOf given (s .tables) .result ≡ refused n → Run past (record { kept = s .kept; tables = setupOf given (s .tables) .left })
 
 abbrev pub RefusedAnywhere : Type 0
-RefusedAnywhere = (past : List ℕ) (s : Held) → Run past s → Unmoved past s
+RefusedAnywhere = (past : List ℕ) (s : Tracker) → Run past s → Unmoved past s
 
 -- ---- the right-hand sides are what they say
 

@@ -3,22 +3,25 @@ use Prim.Native.Nat.{ℕ}
 use mathlib.Core.List.{List}
 use lib.Ieee.{Float}
 use Rattle.rules.specs.declared.Settings.{Settings}
+use Rattle.rules.specs.declared.Record.{Record}
 use Rattle.rules.specs.declared.Shape.{Shape}
-use Rattle.rules.specs.declared.Body.{Body}
+use Rattle.rules.specs.declared.SetupBody.{SetupBody}
 use Rattle.rules.specs.declared.Event.{Event}
 use Rattle.rules.specs.Settings.{hashOf, Histogram, Tables}
 use Rattle.rules.specs.Reference.{Reply}
-use Rattle.rules.specs.Answers.{Said, numberOf}
-use Rattle.rules.specs.Events.{Filling, writeOf, readOf}
-use Rattle.rules.specs.Calls.{Outcome, Beginning, setupOf, restartOf, referOf, pointOf, plotOf}
-use Rattle.words.specs.Words.{recordOf, wordsOf, replyWords, pointWords, plotWords, eventWords, put}
-use Rattle.driver.specs.declared.Asked.{Asked}
+use Rattle.rules.specs.Answers.{Result, numberOf}
+use Rattle.rules.specs.Order.{Outcome}
+use Rattle.rules.specs.Events.{writeOf, readOf}
+use Rattle.rules.specs.Layout.{Tracker}
+use Rattle.rules.specs.Calls.{setupOf, restartOf, referOf, pointOf, plotOf}
+use Rattle.words.specs.Words.{recordOf, wordsOf, replyWords, pointWords, plotWords, eventWords, orOld}
+use Rattle.driver.specs.declared.AskedSettings.{AskedSettings}
 use Rattle.driver.specs.declared.Believed.{Believed}
 
 -- ---- what C hands over
 
 -- the settings asked for, as C hands them over
-abbrev pub settingsFrom : Asked → Settings
+abbrev pub settingsFrom : AskedSettings → Settings
 settingsFrom g = record { limit = g .limit; start = g .start; width = g .width; buckets = g .buckets; hashing = record { kind = g .kind } }
 
 -- the shape believed, as C hands it over
@@ -26,8 +29,8 @@ abbrev pub shapeFrom : Believed → Shape
 shapeFrom b = record { buckets = b .buckets; width = b .width }
 
 -- the body of a kind 4 event, as C hands it over
-abbrev pub bodyFrom : (limit start width buckets kind : ℕ) → Body
-bodyFrom limit start width buckets kind = record { limit = limit; start = start; width = width; buckets = buckets; kind = kind }
+abbrev pub setupBodyFrom : (limit start width buckets kind : ℕ) → SetupBody
+setupBodyFrom limit start width buckets kind = record { limit = limit; start = start; width = width; buckets = buckets; kind = kind }
 
 -- ---- the calls
 
@@ -45,14 +48,14 @@ abbrev pub started : (number : ℕ) (words : List ℕ) → Tables → Started
 started number words tables = record { number = number; words = words; tables = tables }
 
 -- a start, by what the rules say of it
-abbrev pub begun : Beginning → (words : List ℕ) → Started
-begun b w = started (numberOf (b .said)) (put wordsOf (b .said) w) (b .tables)
+abbrev pub startedBy : Outcome Record Tables → (words : List ℕ) → Started
+startedBy b w = started (numberOf (b .result)) (orOld wordsOf (b .result) w) (b .left)
 
 abbrev pub setupIn : Settings → (words : List ℕ) → Tables → Started
-setupIn given w t = begun (setupOf given t) w
+setupIn given w t = startedBy (setupOf given t) w
 
 abbrev pub restartIn : (words : List ℕ) → Tables → Started
-restartIn w t = begun (restartOf (recordOf w) t) w
+restartIn w t = startedBy (restartOf (recordOf w) t) w
 
 -- what a reference leaves: its number, the record's words, the answer's words, the tables
 pub record Referred : Type 0 where
@@ -65,12 +68,12 @@ abbrev pub referred : (number : ℕ) (words answer : List ℕ) → Tables → Re
 referred number words answer tables = record { number = number; words = words; answer = answer; tables = tables }
 
 -- a refused reference leaves the words as they were
-abbrev pub keptWords : Outcome Reply → (words : List ℕ) → List ℕ
-keptWords o w = put (λ r. wordsOf (o .left .kept)) (o .said) w
+abbrev pub keptWords : Outcome Reply Tracker → (words : List ℕ) → List ℕ
+keptWords o w = orOld (λ r. wordsOf (o .left .kept)) (o .result) w
 
 -- a reference, by what the rules say of it
-abbrev pub stepped : Outcome Reply → (words answer : List ℕ) → Referred
-stepped o w a = referred (numberOf (o .said)) (keptWords o w) (put replyWords (o .said) a) (o .left .tables)
+abbrev pub stepped : Outcome Reply Tracker → (words answer : List ℕ) → Referred
+stepped o w a = referred (numberOf (o .result)) (keptWords o w) (orOld replyWords (o .result) a) (o .left .tables)
 
 abbrev pub referIn : (location : ℕ) (words answer : List ℕ) → Tables → Referred
 referIn x w a t = stepped (referOf x (record { kept = recordOf w; tables = t })) w a
@@ -83,8 +86,8 @@ pub record Given (C : Type 0) : Type 0 where
 abbrev pub given : {C : Type 0} → (number : ℕ) (words : C) → Given C
 given number words = record { number = number; words = words }
 
-abbrev pub into : {A C : Type 0} → (A → C) → Said A → (words : C) → Given C
-into f s w = given (numberOf s) (put f s w)
+abbrev pub into : {A C : Type 0} → (A → C) → Result A → (words : C) → Given C
+into f s w = given (numberOf s) (orOld f s w)
 
 abbrev pub pointIn : (words : List ℕ) → Shape → (point : ℕ) → Histogram → (values : List ℕ) → Given (List ℕ)
 pointIn w believed k g values = into pointWords (pointOf (recordOf w) believed k g) values
@@ -95,8 +98,8 @@ plotIn w believed k g values = into plotWords (plotOf (recordOf w) believed k g)
 abbrev pub readIn : (bytes values : List ℕ) → Given (List ℕ)
 readIn bytes values = into eventWords (readOf bytes) values
 
-abbrev pub written : Filling → Given (List ℕ)
-written f = given (numberOf (f .said)) (f .buffer)
+abbrev pub written : Outcome ℕ (List ℕ) → Given (List ℕ)
+written f = given (numberOf (f .result)) (f .left)
 
 abbrev pub writeIn : Event → (buffer : List ℕ) → Given (List ℕ)
 writeIn e buffer = written (writeOf e buffer)

@@ -1,11 +1,11 @@
 // What a driver in C links: include/rockgingham.h says the same for its readers. Every function takes anything and, but for the hash,
 // answers 0, or the number of a refusal, which changes no word, table or byte.
 use rules::Answer;
-use rules::Body;
 use rules::Event;
 use rules::Hashing;
 use rules::Reading;
 use rules::Settings;
+use rules::SetupBody;
 use rules::Shape;
 use words::answer_words;
 use words::event_words;
@@ -21,11 +21,11 @@ use words::record_of;
 use words::started_words;
 ghost use mathlib.Core.Path.{_≡_};
 ghost use Rattle.rules.specs.Layout.{bucketsOf, tablesOf};
-ghost use Rattle.driver.specs.Calls.{started, setupIn, restartIn, settingsFrom, hashIn, bodyFrom, referred, referIn, given, shapeFrom, pointIn, plotIn, readIn, writeIn};
+ghost use Rattle.driver.specs.Calls.{started, setupIn, restartIn, settingsFrom, hashIn, setupBodyFrom, referred, referIn, given, shapeFrom, pointIn, plotIn, readIn, writeIn};
 
 // The settings asked for: a zero stands for its default, except the hash kind.
 #[repr(C)]
-pub struct Asked {
+pub struct AskedSettings {
     pub limit: u64,
     pub start: u64,
     pub width: u64,
@@ -40,7 +40,7 @@ pub struct Believed {
     pub width: u64,
 }
 
-fn settings_from(asked: Asked) -> Settings
+fn settings_from(asked: AskedSettings) -> Settings
     ensures { λ r. ⌜ r ≡ settingsFrom asked ⌝ }
 {
     Settings {
@@ -73,14 +73,14 @@ pub extern "C" fn rockgingham_hash(kind: u64, location: u64) -> u64
 #[no_mangle]
 pub extern "C" fn rockgingham_setup(
     words: &mut [u64; 9],
-    asked: Asked,
+    asked: AskedSettings,
     locations: &[u64],
     counts: &mut [u64],
     thresholds: &mut [u32],
 ) -> u64
     ensures { λ r. ⌜ started r (now (words .exit)) (tablesOf (now (locations .entry)) (now (counts .exit)) (now (thresholds .exit))) ≡ setupIn (settingsFrom asked) (now (words .entry)) (tablesOf (now (locations .entry)) (now (counts .entry)) (now (thresholds .entry))) ⌝ }
 {
-    let answer = start::setup(settings_from(asked), locations, counts, thresholds);
+    let answer = setup::setup(settings_from(asked), locations, counts, thresholds);
     *words = started_words(answer, *words);
     number_started(answer)
 }
@@ -95,7 +95,7 @@ pub extern "C" fn rockgingham_restart(
 ) -> u64
     ensures { λ r. ⌜ started r (now (words .exit)) (tablesOf (now (locations .entry)) (now (counts .exit)) (now (thresholds .exit))) ≡ restartIn (now (words .entry)) (tablesOf (now (locations .entry)) (now (counts .entry)) (now (thresholds .entry))) ⌝ }
 {
-    let answer = start::restart(record_of(*words), locations, counts, thresholds);
+    let answer = setup::restart(record_of(*words), locations, counts, thresholds);
     *words = started_words(answer, *words);
     number_started(answer)
 }
@@ -112,15 +112,15 @@ pub extern "C" fn rockgingham_refer(
 ) -> u64
     ensures { λ r. ⌜ referred r (now (words .exit)) (now (answer .exit)) (tablesOf (now (locations .exit)) (now (counts .exit)) (now (thresholds .exit))) ≡ referIn location (now (words .entry)) (now (answer .entry)) (tablesOf (now (locations .entry)) (now (counts .entry)) (now (thresholds .entry))) ⌝ }
 {
-    let r = tracker::refer(record_of(*words), location, locations, counts, thresholds);
-    let said = r.answer;
+    let r = refer::refer(record_of(*words), location, locations, counts, thresholds);
+    let reply = r.answer;
     let kept = r.kept;
-    if let Answer::Refused(why) = said {
+    if let Answer::Refused(why) = reply {
         return judge::number_of(why);
     }
-    *words = kept_words(said, kept, *words);
-    *answer = answer_words(said, *answer);
-    number_answered(said)
+    *words = kept_words(reply, kept, *words);
+    *answer = answer_words(reply, *answer);
+    number_answered(reply)
 }
 
 // A point: its size, hits, misses and total.
@@ -164,7 +164,7 @@ pub extern "C" fn rockgingham_plot(
 pub extern "C" fn rockgingham_read(event: &mut [u64; 7], bytes: &[u8]) -> u64
     ensures { λ r. ⌜ given r (now (event .exit)) ≡ readIn (now (bytes .entry)) (now (event .entry)) ⌝ }
 {
-    match trace::read(bytes) {
+    match reading::read(bytes) {
         Reading::Got(e, taken) => {
             *event = event_words(e, taken);
             0
@@ -204,9 +204,9 @@ pub extern "C" fn rockgingham_write_setup(
     kind: u8,
     buffer: &mut [u8],
 ) -> u64
-    ensures { λ r. ⌜ given r (now (buffer .exit)) ≡ writeIn (Event.Setup (bodyFrom limit start width buckets kind)) (now (buffer .entry)) ⌝ }
+    ensures { λ r. ⌜ given r (now (buffer .exit)) ≡ writeIn (Event.Setup (setupBodyFrom limit start width buckets kind)) (now (buffer .entry)) ⌝ }
 {
-    let body = Body {
+    let body = SetupBody {
         limit,
         start,
         width,

@@ -11,10 +11,11 @@ use borrow.Author.Tests.{eq-eqb, ne-eqb, eqb-true, eqb-false}
 use Rattle.rules.specs.declared.Event.{Event}
 use Rattle.rules.specs.declared.Event.the-variants.{Location, Span, Restart, Setup}
 use Rattle.rules.specs.Settings.{withDefaults}
-use Rattle.rules.specs.Answers.{Said, refused, gives, Got}
+use Rattle.rules.specs.Answers.{Result, refused, gives, Got}
+use Rattle.rules.specs.Order.{Outcome, outcome}
 use Rattle.rules.specs.Events.{readOf, settingsOf}
-use Rattle.rules.specs.Layout.{Held, laid, fresh}
-use Rattle.rules.specs.Calls.{Outcome, refusing, stepOf, referAll, applyOf}
+use Rattle.rules.specs.Layout.{Tracker, stored, fresh}
+use Rattle.rules.specs.Calls.{stepOf, referAll, applyOf}
 use Rattle.rules.proofs.Tests.{cases, clash}
 use Rattle.rules.proofs.Events.{taken}
 use Rattle.rules.proofs.Calls.{refer-accept, refer-either, setup-either, restart-either}
@@ -24,27 +25,27 @@ use Rattle.feed.specs.Past.{pastAfter, freshStart}
 
 -- ---- one event: either all of it is taken, or it is refused and leaves all as it was
 
-abbrev pub taking : Held → Outcome (Unit {0})
-taking s = record { said = gives tt; left = s }
+abbrev pub taking : Tracker → Outcome (Unit {0}) Tracker
+taking s = record { result = gives tt; left = s }
 
 -- an event that was taken continues any run, and a fresh start begins one
-pub record Took (e : Event) (s left : Held) : Type 0 where
+pub record Took (e : Event) (s left : Tracker) : Type 0 where
   pub is : applyOf e s ≡ taking left
   pub runs : (past : List ℕ) → Run past s → Run (pastAfter e past) left
   pub begins : freshStart e ≡ true → (past : List ℕ) → Run (pastAfter e past) left
 
-module _ {C : Type 0} (s : Held) where
-  module _ (e : Event) (f : (left : Held) → Took e s left → C) (g : (n : ℕ) → applyOf e s ≡ refusing n s → C) where
+module _ {C : Type 0} (s : Tracker) where
+  module _ (e : Event) (f : (left : Tracker) → Took e s left → C) (g : (n : ℕ) → applyOf e s ≡ outcome (refused n) s → C) where
     no-reference : applyOf e s ≡ taking s → ((past : List ℕ) → pastAfter e past ≡ past) → freshStart e ≡ false → C
     no-reference is after not = f s (record { is = is; runs = λ past r. rw after r; begins = λ b. clash b not })
 
     one-reference : (x : ℕ) → applyOf e s ≡ referAll (x ∷ []) s → ((past : List ℕ) → pastAfter e past ≡ x ∷ past) → freshStart e ≡ false → C
     unfolding referAll
     one-reference x is after not = refer-either x s
-        (λ a. f (laid (stepOf x s) s) (record { is = is ∙ rw (refer-accept x s a); runs = λ past r. rw after (refer r (refer-accept x s a)); begins = λ b. clash b not }))
+        (λ a. f (stored (stepOf x s) s) (record { is = is ∙ rw (refer-accept x s a); runs = λ past r. rw after (refer r (refer-accept x s a)); begins = λ b. clash b not }))
         (λ n q. g n (is ∙ rw q))
 
-  pub apply-either : (e : Event) → ((left : Held) → Took e s left → C) → ((n : ℕ) → applyOf e s ≡ refusing n s → C) → C
+  pub apply-either : (e : Event) → ((left : Tracker) → Took e s left → C) → ((n : ℕ) → applyOf e s ≡ outcome (refused n) s → C) → C
   unfolding applyOf referAll
   apply-either (Location x) f g = one-reference (Location x) f g x refl (λ past. refl) refl
   apply-either (Span offset n) f g = cases (eqb n 0)
@@ -60,15 +61,15 @@ module _ {C : Type 0} (s : Held) where
 -- ---- the first event, and then more
 
 -- what comes after the first event is all that counts of what comes then
-module _ (bytes : List ℕ) (s : Held) (next other : List ℕ → Held → Feeding)
-    (same : (g : Got) → readOf bytes ≡ gives g → (left : Held) → next (drop (g .taken) bytes) left ≡ other (drop (g .taken) bytes) left) where
-  event-same : (g : Got) → readOf bytes ≡ gives g → (said : Said (Unit {0})) (left : Held) → afterEvent next (g .taken) bytes said left ≡ afterEvent other (g .taken) bytes said left
+module _ (bytes : List ℕ) (s : Tracker) (next other : List ℕ → Tracker → Feeding)
+    (same : (g : Got) → readOf bytes ≡ gives g → (left : Tracker) → next (drop (g .taken) bytes) left ≡ other (drop (g .taken) bytes) left) where
+  event-same : (g : Got) → readOf bytes ≡ gives g → (said : Result (Unit {0})) (left : Tracker) → afterEvent next (g .taken) bytes said left ≡ afterEvent other (g .taken) bytes said left
   event-same g e (refused n) left = refl
   event-same g e (gives u) left = ap (further (g .taken)) (same g e left)
 
-  reading-same : (r : Said Got) → readOf bytes ≡ r → afterReading next bytes r s ≡ afterReading other bytes r s
+  reading-same : (r : Result Got) → readOf bytes ≡ r → afterReading next bytes r s ≡ afterReading other bytes r s
   reading-same (refused n) e = refl
-  reading-same (gives g) e = event-same g e (applyOf (g .event) s .said) (applyOf (g .event) s .left)
+  reading-same (gives g) e = event-same g e (applyOf (g .event) s .result) (applyOf (g .event) s .left)
 
   first-same : firstThen next bytes s ≡ firstThen other bytes s
   first-same = ap (cond (eqb (length bytes) 0) (stopped (gives whole) s)) (reading-same (readOf bytes) refl)
@@ -78,7 +79,7 @@ less : (bytes : List ℕ) {g : Got} {n : ℕ} → readOf bytes ≡ gives g → l
 less bytes {g} e h = rw length-drop (omega (arith, taken bytes e))
 
 -- as many events as there are bytes are enough
-most-same : (n m : ℕ) (bytes : List ℕ) (s : Held) → length bytes ≤ n → length bytes ≤ m → feedMost n bytes s ≡ feedMost m bytes s
+most-same : (n m : ℕ) (bytes : List ℕ) (s : Tracker) → length bytes ≤ n → length bytes ≤ m → feedMost n bytes s ≡ feedMost m bytes s
 unfolding feedMost
 most-same zero zero bytes s h k = refl
 most-same zero (suc m) [] s h k = refl
@@ -88,7 +89,7 @@ most-same (suc n) zero (x ∷ bytes) s h k = absurd (not-suc-le-zero k)
 most-same (suc n) (suc m) bytes s h k =
     first-same bytes s (feedMost n) (feedMost m) (λ g e left. most-same n m (drop (g .taken) bytes) left (less bytes e h) (less bytes e k))
 
-pub first-then : (bytes : List ℕ) (s : Held) → feedOf bytes s ≡ firstThen feedOf bytes s
+pub first-then : (bytes : List ℕ) (s : Tracker) → feedOf bytes s ≡ firstThen feedOf bytes s
 unfolding feedOf feedMost
 first-then [] s = refl
 first-then (x ∷ bytes) s =
@@ -97,27 +98,27 @@ first-then (x ∷ bytes) s =
 
 -- ---- each way that feeding goes
 
-module _ (bytes : List ℕ) (s : Held) where
+module _ (bytes : List ℕ) (s : Tracker) where
   pub feed-none : length bytes ≡ 0 → feedOf bytes s ≡ stopped (gives whole) s
   feed-none h = first-then bytes s ∙ rw (eq-eqb _ _ h)
 
   module _ (some : 0 < length bytes) where
-    pub feed-reads : (r : Said Got) → readOf bytes ≡ r → feedOf bytes s ≡ afterReading feedOf bytes r s
+    pub feed-reads : (r : Result Got) → readOf bytes ≡ r → feedOf bytes s ≡ afterReading feedOf bytes r s
     feed-reads r e = first-then bytes s ∙ rw (ne-eqb (length bytes) 0 (λ z. omega arith), e)
 
 -- ---- to show P of what feeding comes to, show it of each way to stop, and of an event with what comes after it
 
-module _ (P : List ℕ → Held → Feeding → Type 0)
-    (ends : (s : Held) → P [] s (stopped (gives whole) s))
-    (cut : (bytes : List ℕ) (s : Held) → 0 < length bytes → readOf bytes ≡ refused 7 → P bytes s (stopped (gives inside) s))
-    (unknown : (bytes : List ℕ) (s : Held) (n : ℕ) → (n ≡ 7 → ⊥) → 0 < length bytes → readOf bytes ≡ refused n → P bytes s (stopped (refused n) s))
-    (refuses : (bytes : List ℕ) (s : Held) (g : Got) (n : ℕ) → readOf bytes ≡ gives g → applyOf (g .event) s ≡ refusing n s → P bytes s (stopped (refused n) s))
-    (goes : (bytes : List ℕ) (s : Held) (g : Got) (left : Held) → readOf bytes ≡ gives g → Took (g .event) s left
+module _ (P : List ℕ → Tracker → Feeding → Type 0)
+    (ends : (s : Tracker) → P [] s (stopped (gives whole) s))
+    (cut : (bytes : List ℕ) (s : Tracker) → 0 < length bytes → readOf bytes ≡ refused 7 → P bytes s (stopped (gives inside) s))
+    (unknown : (bytes : List ℕ) (s : Tracker) (n : ℕ) → (n ≡ 7 → ⊥) → 0 < length bytes → readOf bytes ≡ refused n → P bytes s (stopped (refused n) s))
+    (refuses : (bytes : List ℕ) (s : Tracker) (g : Got) (n : ℕ) → readOf bytes ≡ gives g → applyOf (g .event) s ≡ outcome (refused n) s → P bytes s (stopped (refused n) s))
+    (goes : (bytes : List ℕ) (s : Tracker) (g : Got) (left : Tracker) → readOf bytes ≡ gives g → Took (g .event) s left
     → P (drop (g .taken) bytes) left (feedOf (drop (g .taken) bytes) left) → P bytes s (further (g .taken) (feedOf (drop (g .taken) bytes) left))) where
   abbrev Most : ℕ → Type 0
-  Most n = (bytes : List ℕ) (s : Held) → length bytes ≤ n → P bytes s (feedOf bytes s)
+  Most n = (bytes : List ℕ) (s : Tracker) → length bytes ≤ n → P bytes s (feedOf bytes s)
 
-  reading : (n : ℕ) → Most n → (bytes : List ℕ) (s : Held) → 0 < length bytes → length bytes ≤ suc n → (r : Said Got) → readOf bytes ≡ r → P bytes s (afterReading feedOf bytes r s)
+  reading : (n : ℕ) → Most n → (bytes : List ℕ) (s : Tracker) → 0 < length bytes → length bytes ≤ suc n → (r : Result Got) → readOf bytes ≡ r → P bytes s (afterReading feedOf bytes r s)
   reading n rest bytes s some h (refused m) e = cases (eqb m 7)
       (λ q. rw q (cut bytes s some (e ∙ ap refused (eqb-true m 7 q))))
       (λ q. rw q (unknown bytes s m (eqb-false m 7 q) some e))
@@ -134,5 +135,5 @@ module _ (P : List ℕ → Held → Feeding → Type 0)
   most zero (x ∷ bytes) s h = absurd (not-suc-le-zero h)
   most (suc n) bytes s h = one-more n (most n) bytes s h
 
-  pub by-feeding : (bytes : List ℕ) (s : Held) → P bytes s (feedOf bytes s)
+  pub by-feeding : (bytes : List ℕ) (s : Tracker) → P bytes s (feedOf bytes s)
   by-feeding bytes s = most (length bytes) bytes s (omega arith)

@@ -7,9 +7,9 @@ use native.Mathlib.Omega.{arith}
 use lib.ListN.{length, drop, length-append, length-drop}
 use lib.Seq.{drop-append-le, drop-drop}
 use borrow.Author.Tests.{ne-eqb}
-use Rattle.rules.specs.Answers.{Said, refused, gives, Got}
+use Rattle.rules.specs.Answers.{Result, refused, gives, Got}
 use Rattle.rules.specs.Events.{readOf}
-use Rattle.rules.specs.Layout.{Held}
+use Rattle.rules.specs.Layout.{Tracker}
 use Rattle.rules.proofs.Events.{taken}
 use Rattle.feed.specs.Feed.{End, whole, inside, Feeding, further, afterReading, feedOf, onward, resumed}
 use Rattle.rules.proofs.Fronts.{read-more, read-short, read-refused}
@@ -18,52 +18,52 @@ use Rattle.feed.proofs.Laws.{feed-reads, by-feeding}
 -- ---- where feeding ends
 
 -- what is untaken of l bytes: nothing at the end of an event, else less than an event
-abbrev pub Untaken : Said End → (l taken : ℕ) → Type 0
+abbrev pub Untaken : Result End → (l taken : ℕ) → Type 0
 Untaken (refused n) l taken = taken ≤ l
 Untaken (gives whole) l taken = taken ≡ l
 Untaken (gives inside) l taken = (taken < l) × (l < taken + 18)
 
-untaken-further : (why : Said End) (n l taken : ℕ) → n ≤ l → Untaken why (l - n) taken → Untaken why l (n + taken)
+untaken-further : (why : Result End) (n l taken : ℕ) → n ≤ l → Untaken why (l - n) taken → Untaken why l (n + taken)
 untaken-further (refused m) n l taken h u = omega arith
 untaken-further (gives whole) n l taken h u = omega arith
 untaken-further (gives inside) n l taken h u = (omega arith, omega arith)
 
-pub untaken : (bytes : List ℕ) (s : Held) → Untaken (feedOf bytes s .said) (length bytes) (feedOf bytes s .taken)
-untaken = by-feeding (λ bytes s f. Untaken (f .said) (length bytes) (f .taken))
+pub untaken : (bytes : List ℕ) (s : Tracker) → Untaken (feedOf bytes s .result) (length bytes) (feedOf bytes s .taken)
+untaken = by-feeding (λ bytes s f. Untaken (f .result) (length bytes) (f .taken))
     (λ s. refl)
     (λ bytes s some e. (some, omega (arith, read-short bytes e)))
     (λ bytes s n other some e. omega arith)
     (λ bytes s g n e q. omega arith)
     (λ bytes s g left e t u.
     let f = feedOf (drop (g .taken) bytes) left in
-    untaken-further (f .said) (g .taken) (length bytes) (f .taken) (taken bytes e .1) (rw length-drop at u))
+    untaken-further (f .result) (g .taken) (length bytes) (f .taken) (taken bytes e .1) (rw length-drop at u))
 
-within : (why : Said End) (l n : ℕ) → Untaken why l n → n ≤ l
+within : (why : Result End) (l n : ℕ) → Untaken why l n → n ≤ l
 within (refused m) l n u = u
 within (gives whole) l n u = omega arith
 within (gives inside) l n u = omega arith
 
-pub taken-within : (bytes : List ℕ) (s : Held) → feedOf bytes s .taken ≤ length bytes
-taken-within bytes s = within (feedOf bytes s .said) (length bytes) (feedOf bytes s .taken) (untaken bytes s)
+pub taken-within : (bytes : List ℕ) (s : Tracker) → feedOf bytes s .taken ≤ length bytes
+taken-within bytes s = within (feedOf bytes s .result) (length bytes) (feedOf bytes s .taken) (untaken bytes s)
 
 -- ---- more bytes behind those that were fed
 
 pub further-zero : (f : Feeding) → further 0 f ≡ f
-further-zero f = λ i. record { taken = zero-add (f .taken) i; said = f .said; left = f .left }
+further-zero f = λ i. record { taken = zero-add (f .taken) i; result = f .result; left = f .left }
 
 pub further-further : (n m : ℕ) (f : Feeding) → further n (further m f) ≡ further (n + m) f
-further-further n m f = λ i. record { taken = sym (add-assoc n m (f .taken)) i; said = f .said; left = f .left }
+further-further n m f = λ i. record { taken = sym (add-assoc n m (f .taken)) i; result = f .result; left = f .left }
 
-onward-further : (why : Said End) (n m : ℕ) (bytes more : List ℕ) (s : Held) → further n (onward why m (drop n bytes) more s) ≡ onward why (n + m) bytes more s
+onward-further : (why : Result End) (n m : ℕ) (bytes more : List ℕ) (s : Tracker) → further n (onward why m (drop n bytes) more s) ≡ onward why (n + m) bytes more s
 onward-further (refused k) n m bytes more s = refl
 onward-further (gives e) n m bytes more s = rw (drop-drop m n bytes) (further-further n m _)
 
 -- the bytes are fed further as those before them are, with more behind
-module _ (bytes more : List ℕ) (s : Held) (some : 0 < length bytes) where
-  more-reads : (r : Said Got) → readOf (bytes ++ more) ≡ r → feedOf (bytes ++ more) s ≡ afterReading feedOf (bytes ++ more) r s
+module _ (bytes more : List ℕ) (s : Tracker) (some : 0 < length bytes) where
+  more-reads : (r : Result Got) → readOf (bytes ++ more) ≡ r → feedOf (bytes ++ more) s ≡ afterReading feedOf (bytes ++ more) r s
   more-reads r e = feed-reads (bytes ++ more) s (rw length-append (omega arith)) r e
 
-pub pieces : (bytes more : List ℕ) (s : Held) → feedOf (bytes ++ more) s ≡ resumed (feedOf bytes s) bytes more
+pub pieces : (bytes more : List ℕ) (s : Tracker) → feedOf (bytes ++ more) s ≡ resumed (feedOf bytes s) bytes more
 pieces bytes more = by-feeding (λ bytes s f. feedOf (bytes ++ more) s ≡ resumed f bytes more)
     (λ s. sym (further-zero _))
     (λ bytes s some e. sym (further-zero _))
@@ -72,4 +72,4 @@ pieces bytes more = by-feeding (λ bytes s f. feedOf (bytes ++ more) s ≡ resum
     (λ bytes s g left e t h.
     let f = feedOf (drop (g .taken) bytes) left in
     more-reads bytes more s (omega (arith, taken bytes e)) (gives g) (read-more bytes more e)
-    ∙ rw (t .is, drop-append-le (g .taken) bytes more (taken bytes e .1), h) (onward-further (f .said) (g .taken) (f .taken) bytes more (f .left))) bytes
+    ∙ rw (t .is, drop-append-le (g .taken) bytes more (taken bytes e .1), h) (onward-further (f .result) (g .taken) (f .taken) bytes more (f .left))) bytes

@@ -6,7 +6,7 @@ use native.Mathlib.Omega.{arith}
 use lib.ListN.{drop}
 use Rattle.rules.specs.Answers.{gives, Got}
 use Rattle.rules.specs.Events.{readOf}
-use Rattle.rules.specs.Layout.{Held}
+use Rattle.rules.specs.Layout.{Tracker}
 use Rattle.rules.proofs.Tests.{cases, clash}
 use Rattle.rules.proofs.Events.{taken}
 use Rattle.feed.specs.Feed.{Feeding, further, feedOf}
@@ -15,21 +15,21 @@ use Rattle.rules.proofs.Fronts.{drop-take, read-front}
 use Rattle.feed.proofs.Laws.{Took, by-feeding}
 
 -- nothing was taken
-stands : (bytes : List ℕ) (s : Held) (f : Feeding) → f .taken ≡ 0 → f .left ≡ s → Ran bytes s f
-stands bytes s f n l = record { events = []; are = rw n none; continued = λ past r. rw l r; begun = λ b. clash b refl }
+stands : (bytes : List ℕ) (s : Tracker) (f : Feeding) → f .taken ≡ 0 → f .left ≡ s → Ran bytes s f
+stands bytes s f n l = record { events = []; are = rw n none; continued = λ past r. rw l r; from-fresh-start = λ b. clash b refl }
 
-module _ (bytes : List ℕ) (s : Held) (g : Got) (left : Held) (e : readOf bytes ≡ gives g) (t : Took (g .event) s left) where
+module _ (bytes : List ℕ) (s : Tracker) (g : Got) (left : Tracker) (e : readOf bytes ≡ gives g) (t : Took (g .event) s left) where
   goes-on : (f : Feeding) → Ran (drop (g .taken) bytes) left f → Ran bytes s (further (g .taken) f)
   goes-on f r = record {
     events = g .event ∷ r .events;
     are = one {es = r .events} (read-front (g .taken + f .taken) bytes e (omega arith)) (rw (drop-take (g .taken) (f .taken) bytes) (r .are));
     continued = λ past run. r .continued (pastAfter (g .event) past) (t .runs past run);
-    begun = λ b past. cases (freshStart (g .event))
+    from-fresh-start = λ b past. cases (freshStart (g .event))
         (λ is. r .continued (pastAfter (g .event) past) (t .begins is past))
-        (λ is. r .begun (rw is at b) (pastAfter (g .event) past));
+        (λ is. r .from-fresh-start (rw is at b) (pastAfter (g .event) past));
   }
 
-pub ran : (bytes : List ℕ) (s : Held) → Ran bytes s (feedOf bytes s)
+pub ran : (bytes : List ℕ) (s : Tracker) → Ran bytes s (feedOf bytes s)
 ran = by-feeding Ran
     (λ s. stands [] s _ refl refl)
     (λ bytes s some e. stands bytes s _ refl refl)

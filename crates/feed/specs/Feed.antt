@@ -4,9 +4,9 @@ use mathlib.Core.Bool.{cond}
 use mathlib.Core.List.{List, _++_}
 use lib.Dec.{eqb}
 use lib.ListN.{length, drop}
-use Rattle.rules.specs.Answers.{Said, refused, gives, number, Got}
+use Rattle.rules.specs.Answers.{Result, refused, gives, number, Got}
 use Rattle.rules.specs.Events.{readOf}
-use Rattle.rules.specs.Layout.{Held, held}
+use Rattle.rules.specs.Layout.{Tracker, tracker}
 use Rattle.rules.specs.Calls.{applyOf}
 use Rattle.feed.specs.declared.Ending.{Ending}
 use Rattle.feed.specs.declared.Ending.the-variants as ending
@@ -20,56 +20,56 @@ pub data End : Type 0 where
 -- how many bytes were taken, why no more were, and what is left; a refused event begins after the bytes taken
 pub record Feeding : Type 0 where
   pub taken : ℕ
-  pub said : Said End
-  pub left : Held
+  pub result : Result End
+  pub left : Tracker
 
-abbrev pub stopped : Said End → Held → Feeding
-stopped why s = record { taken = 0; said = why; left = s }
+abbrev pub stopped : Result End → Tracker → Feeding
+stopped why s = record { taken = 0; result = why; left = s }
 
 -- so many bytes were taken before
 abbrev pub further : ℕ → Feeding → Feeding
-further n f = record { taken = n + f .taken; said = f .said; left = f .left }
+further n f = record { taken = n + f .taken; result = f .result; left = f .left }
 
 -- an event that cannot be read: one that is incomplete is no refusal yet
-abbrev pub unread : ℕ → Said End
-unread n = cond (eqb n 7) (gives inside) (refused n)
+abbrev pub unreadable : ℕ → Result End
+unreadable n = cond (eqb n 7) (gives inside) (refused n)
 
 -- after an event that was refused nothing more is done
-abbrev pub afterEvent : (List ℕ → Held → Feeding) → (taken : ℕ) → List ℕ → Said (Unit {0}) → Held → Feeding
+abbrev pub afterEvent : (List ℕ → Tracker → Feeding) → (taken : ℕ) → List ℕ → Result (Unit {0}) → Tracker → Feeding
 afterEvent more taken bytes (refused n) s = stopped (refused n) s
 afterEvent more taken bytes (gives u) s = further taken (more (drop taken bytes) s)
 
-abbrev pub afterReading : (List ℕ → Held → Feeding) → List ℕ → Said Got → Held → Feeding
-afterReading more bytes (refused n) s = stopped (unread n) s
-afterReading more bytes (gives g) s = afterEvent more (g .taken) bytes (applyOf (g .event) s .said) (applyOf (g .event) s .left)
+abbrev pub afterReading : (List ℕ → Tracker → Feeding) → List ℕ → Result Got → Tracker → Feeding
+afterReading more bytes (refused n) s = stopped (unreadable n) s
+afterReading more bytes (gives g) s = afterEvent more (g .taken) bytes (applyOf (g .event) s .result) (applyOf (g .event) s .left)
 
 -- the first event, and then more
-abbrev pub firstThen : (List ℕ → Held → Feeding) → List ℕ → Held → Feeding
+abbrev pub firstThen : (List ℕ → Tracker → Feeding) → List ℕ → Tracker → Feeding
 firstThen more bytes s = cond (eqb (length bytes) 0) (stopped (gives whole) s) (afterReading more bytes (readOf bytes) s)
 
 -- at most so many events
-unfoldable pub feedMost : (events : ℕ) → List ℕ → Held → Feeding
+unfoldable pub feedMost : (events : ℕ) → List ℕ → Tracker → Feeding
 feedMost zero bytes s = stopped (gives whole) s
 feedMost (suc n) bytes s = firstThen (feedMost n) bytes s
 
 -- until the bytes end or an event is refused: an event takes a byte at least
-unfoldable pub feedOf : List ℕ → Held → Feeding
+unfoldable pub feedOf : List ℕ → Tracker → Feeding
 feedOf bytes s = feedMost (length bytes) bytes s
 
 -- more bytes behind those that were fed: what was left untaken stands before them; after a refusal nothing more is done
-abbrev pub onward : Said End → (taken : ℕ) → (bytes more : List ℕ) → Held → Feeding
-onward (refused n) taken bytes more s = record { taken = taken; said = refused n; left = s }
+abbrev pub onward : Result End → (taken : ℕ) → (bytes more : List ℕ) → Tracker → Feeding
+onward (refused n) taken bytes more s = record { taken = taken; result = refused n; left = s }
 onward (gives e) taken bytes more s = further taken (feedOf (drop taken bytes ++ more) s)
 
 abbrev pub resumed : Feeding → (bytes more : List ℕ) → Feeding
-resumed f bytes more = onward (f .said) (f .taken) bytes more (f .left)
+resumed f bytes more = onward (f .result) (f .taken) bytes more (f .left)
 
 -- ---- what the code's answer says, with the tables as the call left them
 
-abbrev pub saidEnding : Ending → Said End
-saidEnding ending.Whole = gives whole
-saidEnding ending.Inside = gives inside
-saidEnding (ending.Refused r) = refused (number r)
+abbrev pub endingResult : Ending → Result End
+endingResult ending.Whole = gives whole
+endingResult ending.Inside = gives inside
+endingResult (ending.Refused r) = refused (number r)
 
 abbrev pub afterFed : Fed → (locations counts thresholds : List ℕ) → Feeding
-afterFed r locations counts thresholds = record { taken = r .taken; said = saidEnding (r .ending); left = held (r .kept) locations counts thresholds }
+afterFed r locations counts thresholds = record { taken = r .taken; result = endingResult (r .ending); left = tracker (r .kept) locations counts thresholds }

@@ -8,7 +8,7 @@ use Rattle.rules.specs.declared.Event.{Event}
 use Rattle.rules.specs.declared.Event.the-variants.{Location, Span, Restart, Setup}
 use Rattle.rules.specs.Answers.{gives, Got}
 use Rattle.rules.specs.Events.{readOf, referencesOf}
-use Rattle.rules.specs.Layout.{Held}
+use Rattle.rules.specs.Layout.{Tracker}
 use Rattle.demands.specs.Runs.{Run}
 use Rattle.feed.specs.Feed.{Feeding}
 
@@ -48,8 +48,8 @@ pub data Events : List ℕ → List Event → Type 0 where
 
 -- what feeding s left: with the events that were taken it continues any run that left s; and from any s it is a run, once one of
 -- them was a fresh start
-pub record Ran (bytes : List ℕ) (s : Held) (f : Feeding) : Type 0 where
+pub record Ran (bytes : List ℕ) (s : Tracker) (f : Feeding) : Type 0 where
   pub events : List Event
   pub are : Events (take (f .taken) bytes) events
   pub continued : (past : List ℕ) → Run past s → Run (pastOf events past) (f .left)
-  pub begun : anyFreshStart events ≡ true → (past : List ℕ) → Run (pastOf events past) (f .left)
+  pub from-fresh-start : anyFreshStart events ≡ true → (past : List ℕ) → Run (pastOf events past) (f .left)

@@ -5,8 +5,8 @@ use rules::Refusal;
 use rules::Taken;
 ghost use mathlib.Core.Path.{_≡_};
 ghost use Rattle.rules.specs.Answers.{number};
-ghost use Rattle.rules.specs.Layout.{held};
-ghost use Rattle.feed.specs.Feed.{unread, feedOf, saidEnding, afterFed};
+ghost use Rattle.rules.specs.Layout.{tracker};
+ghost use Rattle.feed.specs.Feed.{unreadable, feedOf, endingResult, afterFed};
 
 // Why no more bytes were taken: they end after a whole event, or inside one, or an event was refused.
 pub enum Ending {
@@ -23,8 +23,8 @@ pub struct Fed {
 }
 
 // An event that cannot be read: one that is incomplete is no refusal yet.
-fn unread_for(why: Refusal) -> Ending
-    ensures { λ r. ⌜ saidEnding r ≡ unread (number why) ⌝ }
+fn unreadable(why: Refusal) -> Ending
+    ensures { λ r. ⌜ endingResult r ≡ unreadable (number why) ⌝ }
 {
     if judge::number_of(why) == 7 {
         return Ending::Inside;
@@ -34,25 +34,25 @@ fn unread_for(why: Refusal) -> Ending
 
 // Event after event, until the bytes end, end inside an event, or an event is refused.
 pub fn feed(
-    k: Record,
+    kept: Record,
     bytes: &[u8],
     locations: &mut [u64],
     counts: &mut [u64],
     thresholds: &mut [u32],
 ) -> Fed
-    ensures { λ r. ⌜ afterFed r (now (locations .exit)) (now (counts .exit)) (now (thresholds .exit)) ≡ feedOf (now (bytes .entry)) (held k (now (locations .entry)) (now (counts .entry)) (now (thresholds .entry))) ⌝ }
+    ensures { λ r. ⌜ afterFed r (now (locations .exit)) (now (counts .exit)) (now (thresholds .exit)) ≡ feedOf (now (bytes .entry)) (tracker kept (now (locations .entry)) (now (counts .entry)) (now (thresholds .entry))) ⌝ }
 {
     let mut at: usize = 0;
-    let mut kept = k;
+    let mut latest = kept;
     while at < bytes.len() {
-        match trace::read(&bytes[at..]) {
+        match reading::read(&bytes[at..]) {
             Reading::Got(event, taken) => {
-                let applied = apply::apply(kept, event, locations, counts, thresholds);
+                let applied = apply::apply(latest, event, locations, counts, thresholds);
                 let answer = applied.answer;
-                kept = applied.kept;
+                latest = applied.kept;
                 if let Taken::Refused(why) = answer {
                     return Fed {
-                        kept,
+                        kept: latest,
                         taken: at,
                         ending: Ending::Refused(why),
                     };
@@ -61,15 +61,15 @@ pub fn feed(
             }
             Reading::Refused(why) => {
                 return Fed {
-                    kept,
+                    kept: latest,
                     taken: at,
-                    ending: unread_for(why),
+                    ending: unreadable(why),
                 };
             }
         }
     }
     Fed {
-        kept,
+        kept: latest,
         taken: at,
         ending: Ending::Whole,
     }

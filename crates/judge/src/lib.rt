@@ -43,15 +43,15 @@ pub fn out_of_range(s: Settings) -> bool
 }
 
 // Whether a record is torn.
-pub fn torn(k: Record) -> bool
-    ensures { λ r. ⌜ r ≡ tornRecord k ⌝ }
+pub fn torn(kept: Record) -> bool
+    ensures { λ r. ⌜ r ≡ tornRecord kept ⌝ }
 {
-    let s = k.settings;
+    let s = kept.settings;
     out_of_range(s)
-        | (s.limit < k.live)
-        | (s.start < k.threshold)
-        | (k.numbers.references < k.numbers.sampled)
-        | (0xffff_ffff < k.numbers.references)
+        | (s.limit < kept.live)
+        | (s.start < kept.threshold)
+        | (kept.numbers.references < kept.numbers.sampled)
+        | (0xffff_ffff < kept.numbers.references)
 }
 
 // Whether a bucket table of so many entries is too short for so many buckets. No table is as long as the sum that would wrap.

@@ -12,12 +12,13 @@ use lib.ListN.{length, getD, take, drop, set, length-set, length-append, length-
 use lib.Seq.{drop-cons, getD-take, take-suc, length-take-le, set-at}
 use borrow.Author.Tests.{eq-eqb, ne-eqb, lt-ltb, le-ltb, ltb-true}
 use Rattle.rules.specs.Lists.{keep, over}
+use Rattle.rules.specs.Settings.{Tables}
 use Rattle.rules.specs.Reference.{firstFrom, firstPlace, toFront, under, largest, keepBelow, lowered}
 use Rattle.rules.proofs.Tests.{cases}
 use Rattle.rules.proofs.Lists.{keep-append, keep-length}
 use Rattle.rules.proofs.Tables.{over-at, over-set, over-length, over-front, over-over, takes}
 use Rattle.rules.proofs.Places.{found-lt, front-length, front-over, front-new}
-use Rattle.live.specs.Live.{movedToFront, kept, keptOf, lowering, loweringOf}
+use Rattle.live.specs.Live.{movedToFront, remaining, remainingOf, lowering, loweringOf}
 
 -- ---- the search, at the place i of the first n
 
@@ -125,7 +126,7 @@ module _ (p : ℕ → Bool) (xs now : List ℕ) (number i : ℕ) (k : Keeping p 
       let e : keep p (take (i + 1) xs) ≡ keep p (take i xs) = more ∙ rw b' (append-nil (keep p (take i xs))) in
       record { reach = omega arith; less = omega arith; count = rw e (k .count); is = rw e (k .is); same = k .same }
 
-pub keep-end : (p : ℕ → Bool) (xs now : List ℕ) (number i n : ℕ) → Keeping p xs now number i → i ≡ min n (length xs) → kept number now ≡ kept (length (keep p (take n xs))) (over (keep p (take n xs)) xs)
+pub keep-end : (p : ℕ → Bool) (xs now : List ℕ) (number i n : ℕ) → Keeping p xs now number i → i ≡ min n (length xs) → remaining number now ≡ remaining (length (keep p (take n xs))) (over (keep p (take n xs)) xs)
 keep-end p xs now number i n k m = rw (← takes xs i n (omega arith) (k .reach) (omega arith), k .count, k .is)
 
 -- ---- a lowering
@@ -170,8 +171,8 @@ pub falls : (hash : ℕ → ℕ) (t n x : ℕ) (xs : List ℕ) {own others most 
 unfolding largest
 falls hash t n x xs p q r s = record { own-is = p; fallen-is = rw (← p, ← q, ← r) s }
 
--- and of the first n those below it are kept
-module _ (hash : ℕ → ℕ) (t n x : ℕ) (xs mid : List ℕ) (own fallen number : ℕ) (f : Fallen hash t n x xs own fallen) (k : kept number mid ≡ keptOf hash fallen n xs) where
+-- and of the first n those below it are remaining
+module _ (hash : ℕ → ℕ) (t n x : ℕ) (xs mid : List ℕ) (own fallen number : ℕ) (f : Fallen hash t n x xs own fallen) (k : remaining number mid ≡ remainingOf hash fallen n xs) where
   pub room : own < fallen → number < length xs
   room h =
       let l : hash x < lowered hash t (x ∷ take n xs) = rw (← f .own-is, ← f .fallen-is) h in
@@ -203,7 +204,7 @@ pub moved-length : (d x : ℕ) (xs : List ℕ) → length (movedToFront d x xs) 
 unfolding movedToFront
 moved-length d x xs = cases (ltb d (length xs)) (λ e. rw e (front-length d x xs (ltb-true _ _ e))) (λ e. rw e)
 
-pub kept-length : (hash : ℕ → ℕ) (t n : ℕ) (xs : List ℕ) → length (keptOf hash t n xs .table) ≡ length xs
+pub kept-length : (hash : ℕ → ℕ) (t n : ℕ) (xs : List ℕ) → length (remainingOf hash t n xs .table) ≡ length xs
 kept-length hash t n xs = over-length (keepBelow hash t (take n xs)) xs (omega (arith, keep-length (under hash t) (take n xs), length-take n xs))
 
 pub lowering-live : (hash : ℕ → ℕ) (t n x : ℕ) (xs : List ℕ) → loweringOf hash t n x xs .result .live ≤ min n (length xs)

@@ -10,7 +10,7 @@ use Rattle.rules.specs.Reference.{firstPlace, largest}
 use Rattle.rules.specs.Answers.{placeFound}
 use Rattle.rules.proofs.Answers.{found-injective}
 use Rattle.live.specs.declared.Lowered.{Lowered}
-use Rattle.live.specs.Live.{movedToFront, kept, keptOf, lowering, loweringOf}
+use Rattle.live.specs.Live.{movedToFront, remaining, remainingOf, lowering, loweringOf}
 
 module _ (xs : List ℕ) (n : ℕ) where
   pub first-place-unique : (x : ℕ) (r s : Found) → placeFound r ≡ firstPlace x (take n xs) → placeFound s ≡ firstPlace x (take n xs) → r ≡ s
@@ -23,7 +23,7 @@ module _ (xs : List ℕ) (n : ℕ) where
     pub largest-hash-unique : (r s : ℕ) → r ≡ largest (hashOf h) (take n xs) → s ≡ largest (hashOf h) (take n xs) → r ≡ s
     largest-hash-unique r s e f = e ∙ sym f
 
-    pub keep-below-unique : (t r s : ℕ) (ys zs : List ℕ) → kept r ys ≡ keptOf (hashOf h) t n xs → kept s zs ≡ keptOf (hashOf h) t n xs → (r ≡ s) × (ys ≡ zs)
+    pub keep-below-unique : (t r s : ℕ) (ys zs : List ℕ) → remaining r ys ≡ remainingOf (hashOf h) t n xs → remaining s zs ≡ remainingOf (hashOf h) t n xs → (r ≡ s) × (ys ≡ zs)
     keep-below-unique t r s ys zs e f = let g = e ∙ sym f in (ap (λ k. k .number) g, ap (λ k. k .table) g)
 
     pub lower-unique : (t x : ℕ) (r s : Lowered) (ys zs : List ℕ) → lowering r ys ≡ loweringOf (hashOf h) t n x xs → lowering s zs ≡ loweringOf (hashOf h) t n x xs → (r ≡ s) × (ys ≡ zs)

@@ -13,16 +13,16 @@ unfoldable pub movedToFront : (d x : ℕ) → List ℕ → List ℕ
 movedToFront d x xs = cond (ltb d (length xs)) (toFront d x xs) xs
 
 -- how many entries stay, and the table then
-pub record Kept : Type 0 where
+pub record Remaining : Type 0 where
   pub number : ℕ
   pub table : List ℕ
 
-abbrev pub kept : ℕ → List ℕ → Kept
-kept number table = record { number = number; table = table }
+abbrev pub remaining : ℕ → List ℕ → Remaining
+remaining number table = record { number = number; table = table }
 
 -- of the first n those below t stay
-abbrev pub keptOf : (ℕ → ℕ) → (t n : ℕ) → List ℕ → Kept
-keptOf hash t n xs = kept (length (keepBelow hash t (take n xs))) (over (keepBelow hash t (take n xs)) xs)
+abbrev pub remainingOf : (ℕ → ℕ) → (t n : ℕ) → List ℕ → Remaining
+remainingOf hash t n xs = remaining (length (keepBelow hash t (take n xs))) (over (keepBelow hash t (take n xs)) xs)
 
 -- the threshold and the number of locations after a lowering, and the table then
 pub record Lowering : Type 0 where

@@ -7,7 +7,7 @@ ghost use lib.ListN.{take};
 ghost use Rattle.rules.specs.Settings.{hashOf};
 ghost use Rattle.rules.specs.Reference.{firstPlace, largest};
 ghost use Rattle.rules.specs.Answers.{placeFound};
-ghost use Rattle.live.specs.Live.{movedToFront, kept, keptOf, lowering, loweringOf};
+ghost use Rattle.live.specs.Live.{movedToFront, remaining, remainingOf, lowering, loweringOf};
 
 // The threshold and the number of locations after a lowering.
 pub struct Lowered {
@@ -82,7 +82,7 @@ pub fn largest_hash(locations: &[u64], n: usize, hashing: Hashing) -> u64
 
 // The entries whose hash is below the threshold stay, in order; the others leave. Answers how many stay.
 pub fn keep_below(locations: &mut [u64], n: usize, hashing: Hashing, threshold: u64) -> usize
-    ensures { λ r. ⌜ kept r (now (locations .exit)) ≡ keptOf (hashOf hashing) threshold n (now (locations .entry)) ⌝ }
+    ensures { λ r. ⌜ remaining r (now (locations .exit)) ≡ remainingOf (hashOf hashing) threshold n (now (locations .entry)) ⌝ }
 {
     let end = lesser(n, locations.len());
     let mut number: usize = 0;

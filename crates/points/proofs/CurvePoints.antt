@@ -29,45 +29,45 @@ use Rattle.buckets.proofs.Laws.{report-needed}
 use Rattle.points.specs.Points.{fromSums}
 use Rattle.points.proofs.Doubles.{quotient}
 
-module _ (k : Record) (believed : Shape) (n : ℕ) (g : Histogram) (e : tornRecord k ≡ false) (f : bucketsTooShort (k .settings) g ≡ false) (h : stale believed (k .settings) ≡ false) (l : n ≤ k .settings .buckets) where
-  no-point : ltb (k .settings .buckets) n ≡ false
-  no-point = le-ltb (k .settings .buckets) n l
+module _ (kept : Record) (believed : Shape) (n : ℕ) (g : Histogram) (e : tornRecord kept ≡ false) (f : bucketsTooShort (kept .settings) g ≡ false) (h : stale believed (kept .settings) ≡ false) (l : n ≤ kept .settings .buckets) where
+  no-point : ltb (kept .settings .buckets) n ≡ false
+  no-point = le-ltb (kept .settings .buckets) n l
 
-  report-is : reportOf (k .numbers .references) (k .threshold) (needed (k .settings .buckets)) n g
-      ≡ cond (tornReport (k .numbers .references) (k .threshold) (k .settings .buckets) g) (refused 3) (gives (record { hits = hitsAt (k .threshold) n g; total = totalOf (k .threshold) (k .settings .buckets) g }))
-  report-is = let long = buckets-long (k .settings) g f in
-      report-needed (k .numbers .references) (k .threshold) (k .settings .buckets) g (long .counts-long) (long .thresholds-long) n (omega arith)
+  report-is : reportOf (kept .numbers .references) (kept .threshold) (needed (kept .settings .buckets)) n g
+      ≡ cond (tornReport (kept .numbers .references) (kept .threshold) (kept .settings .buckets) g) (refused 3) (gives (record { hits = hitsAt (kept .threshold) n g; total = totalOf (kept .threshold) (kept .settings .buckets) g }))
+  report-is = let long = buckets-long (kept .settings) g f in
+      report-needed (kept .numbers .references) (kept .threshold) (kept .settings .buckets) g (long .counts-long) (long .thresholds-long) n (omega arith)
 
-  report-torn : tornReport (k .numbers .references) (k .threshold) (k .settings .buckets) g ≡ true → reportOf (k .numbers .references) (k .threshold) (needed (k .settings .buckets)) n g ≡ refused 3
+  report-torn : tornReport (kept .numbers .references) (kept .threshold) (kept .settings .buckets) g ≡ true → reportOf (kept .numbers .references) (kept .threshold) (needed (kept .settings .buckets)) n g ≡ refused 3
   report-torn t = report-is ∙ rw t
 
-  report-sums : tornReport (k .numbers .references) (k .threshold) (k .settings .buckets) g ≡ false
-      → reportOf (k .numbers .references) (k .threshold) (needed (k .settings .buckets)) n g ≡ gives (record { hits = hitsAt (k .threshold) n g; total = totalOf (k .threshold) (k .settings .buckets) g })
+  report-sums : tornReport (kept .numbers .references) (kept .threshold) (kept .settings .buckets) g ≡ false
+      → reportOf (kept .numbers .references) (kept .threshold) (needed (kept .settings .buckets)) n g ≡ gives (record { hits = hitsAt (kept .threshold) n g; total = totalOf (kept .threshold) (kept .settings .buckets) g })
   report-sums t = report-is ∙ rw t
 
   -- the report is torn
-  pub from-torn : refused 3 ≡ reportOf (k .numbers .references) (k .threshold) (needed (k .settings .buckets)) n g → refused 3 ≡ pointOf k believed n g
-  from-torn r = cases (tornReport (k .numbers .references) (k .threshold) (k .settings .buckets) g)
-      (λ t. sym (point-buckets k believed n g e f h no-point t))
+  pub from-torn : refused 3 ≡ reportOf (kept .numbers .references) (kept .threshold) (needed (kept .settings .buckets)) n g → refused 3 ≡ pointOf kept believed n g
+  from-torn r = cases (tornReport (kept .numbers .references) (kept .threshold) (kept .settings .buckets) g)
+      (λ t. sym (point-buckets kept believed n g e f h no-point t))
       (λ t. absurd (not-both (sym r) (report-sums t)))
 
   -- it has its sums
-  module _ (sums : Sums) (r : gives sums ≡ reportOf (k .numbers .references) (k .threshold) (needed (k .settings .buckets)) n g) where
-    whole-report : (tornReport (k .numbers .references) (k .threshold) (k .settings .buckets) g ≡ false) × (sums ≡ record { hits = hitsAt (k .threshold) n g; total = totalOf (k .threshold) (k .settings .buckets) g })
-    whole-report = cases (tornReport (k .numbers .references) (k .threshold) (k .settings .buckets) g)
+  module _ (sums : Sums) (r : gives sums ≡ reportOf (kept .numbers .references) (kept .threshold) (needed (kept .settings .buckets)) n g) where
+    whole-report : (tornReport (kept .numbers .references) (kept .threshold) (kept .settings .buckets) g ≡ false) × (sums ≡ record { hits = hitsAt (kept .threshold) n g; total = totalOf (kept .threshold) (kept .settings .buckets) g })
+    whole-report = cases (tornReport (kept .numbers .references) (kept .threshold) (kept .settings .buckets) g)
         (λ t. absurd (not-both (report-torn t) (sym r)))
         (λ t. (t, same (r ∙ report-sums t)))
       where
         same : {a b : Sums} → gives a ≡ gives b → a ≡ b
         same q = cc
 
-    pub from-sums : fromSums (k .settings) n sums ≡ pointOf k believed n g
-    from-sums = rw (whole-report .1) (cases (eqb (totalOf (k .threshold) (k .settings .buckets) g) 0)
-        (λ z. rw z (sym (point-empty k believed n g e f h no-point (whole-report .0) z)))
-        (λ z. rw z (sym (point-given k believed n g (record { record-whole = e; buckets-long = f; shape-same = h; on-curve = no-point; report-whole = whole-report .0; some-total = z })))))
+    pub from-sums : fromSums (kept .settings) n sums ≡ pointOf kept believed n g
+    from-sums = rw (whole-report .1) (cases (eqb (totalOf (kept .threshold) (kept .settings .buckets) g) 0)
+        (λ z. rw z (sym (point-empty kept believed n g e f h no-point (whole-report .0) z)))
+        (λ z. rw z (sym (point-given kept believed n g (record { record-whole = e; buckets-long = f; shape-same = h; on-curve = no-point; report-whole = whole-report .0; some-total = z })))))
 
     pub sums-ordered : sums .hits ≤ sums .total
-    sums-ordered = rw (whole-report .1) (sum-rises (k .threshold) g n (needed (k .settings .buckets)) (omega arith))
+    sums-ordered = rw (whole-report .1) (sum-rises (kept .threshold) g n (needed (kept .settings .buckets)) (omega arith))
 
 -- ---- what a point that is answered holds
 
@@ -77,19 +77,19 @@ pub record InDouble (p : Point) : Type 0 where
   pub total-fits : p .total ≤ 2 ^ 53
   pub total-some : 0 < p .total
 
-pub in-double : (k : Record) (believed : Shape) (n : ℕ) (g : Histogram) (p : Point) → pointOf k believed n g ≡ gives p → InDouble p
-in-double k believed n g p a = let w = point-accepted k believed n g a in
-    fits (w .record-whole) (ltb-false (k .settings .buckets) n (w .on-curve)) (w .report-whole) (eqb-false (totalOf (k .threshold) (k .settings .buckets) g) 0 (w .some-total))
-    (same (sym (point-given k believed n g w) ∙ a))
+pub in-double : (kept : Record) (believed : Shape) (n : ℕ) (g : Histogram) (p : Point) → pointOf kept believed n g ≡ gives p → InDouble p
+in-double kept believed n g p a = let w = point-accepted kept believed n g a in
+    fits (w .record-whole) (ltb-false (kept .settings .buckets) n (w .on-curve)) (w .report-whole) (eqb-false (totalOf (kept .threshold) (kept .settings .buckets) g) 0 (w .some-total))
+    (same (sym (point-given kept believed n g w) ∙ a))
   where
     same : {a b : Point} → gives a ≡ gives b → a ≡ b
     same q = cc
 
-    fits : tornRecord k ≡ false → n ≤ k .settings .buckets → tornReport (k .numbers .references) (k .threshold) (k .settings .buckets) g ≡ false
-        → (totalOf (k .threshold) (k .settings .buckets) g ≡ 0 → ⊥) → curvePoint (profileOf (k .settings)) (k .threshold) n g ≡ p → InDouble p
+    fits : tornRecord kept ≡ false → n ≤ kept .settings .buckets → tornReport (kept .numbers .references) (kept .threshold) (kept .settings .buckets) g ≡ false
+        → (totalOf (kept .threshold) (kept .settings .buckets) g ≡ 0 → ⊥) → curvePoint (profileOf (kept .settings)) (kept .threshold) n g ≡ p → InDouble p
     fits e l t z q =
-        let w = whole k e in
-        let high = total-high (k .numbers .references) (k .threshold) g (k .settings .buckets) t in
+        let w = whole kept e in
+        let high = total-high (kept .numbers .references) (kept .threshold) g (kept .settings .buckets) t in
         subst InDouble q (record {
           size-fits = omega (arith, mul-le-mul-left n (w .range .width-high), w .range .buckets-high);
           misses-fit = omega (arith, w .references-high);

@@ -5,8 +5,8 @@ use lib.Dec.{eqb}
 use Rattle.rules.specs.declared.Settings.{Settings}
 use Rattle.rules.specs.declared.Point.{Point}
 use Rattle.rules.specs.declared.Sums.{Sums}
-use Rattle.rules.specs.Answers.{Said, refused, gives}
+use Rattle.rules.specs.Answers.{Result, refused, gives}
 
 -- point k of fixed widths, from the report's sums
-abbrev pub fromSums : Settings → (k : ℕ) → Sums → Said Point
+abbrev pub fromSums : Settings → (k : ℕ) → Sums → Result Point
 fromSums s k sums = cond (eqb (sums .total) 0) (refused 9) (gives (record { size = k * s .width; hits = sums .hits; misses = sums .total - sums .hits; total = sums .total }))

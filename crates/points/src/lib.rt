@@ -12,7 +12,7 @@ use rules::Shape;
 use rules::Sums;
 ghost use mathlib.Core.Path.{_≡_};
 ghost use Prim.Native.Nat.{_≤_};
-ghost use Rattle.rules.specs.Answers.{saidPointed, saidPlotted};
+ghost use Rattle.rules.specs.Answers.{pointResult, plotResult};
 ghost use Rattle.rules.specs.Layout.{bucketsOf};
 ghost use Rattle.rules.specs.Calls.{pointOf, plotOf};
 ghost use Rattle.points.specs.Points.{fromSums};
@@ -20,7 +20,7 @@ ghost use Rattle.points.specs.Points.{fromSums};
 // The point, from the report's sums.
 fn point_of(s: Settings, number: u64, sums: Sums) -> Pointed
     requires { ⌜ (number ≤ 10000) × (s .width ≤ 4294967295) × (sums .hits ≤ sums .total) ⌝ }
-    ensures { λ r. ⌜ saidPointed r ≡ fromSums s number sums ⌝ }
+    ensures { λ r. ⌜ pointResult r ≡ fromSums s number sums ⌝ }
 {
     if sums.total == 0 {
         return Pointed::Refused(Refusal::Empty);
@@ -34,13 +34,19 @@ fn point_of(s: Settings, number: u64, sums: Sums) -> Pointed
 }
 
 // A point of the curve, under the shape that the caller believes.
-pub fn point(k: Record, believed: Shape, number: u64, counts: &[u64], thresholds: &[u32]) -> Pointed
-    ensures { λ r. ⌜ saidPointed r ≡ pointOf k believed number (bucketsOf (now (counts .entry)) (now (thresholds .entry))) ⌝ }
+pub fn point(
+    kept: Record,
+    believed: Shape,
+    number: u64,
+    counts: &[u64],
+    thresholds: &[u32],
+) -> Pointed
+    ensures { λ r. ⌜ pointResult r ≡ pointOf kept believed number (bucketsOf (now (counts .entry)) (now (thresholds .entry))) ⌝ }
 {
-    if judge::torn(k) {
+    if judge::torn(kept) {
         return Pointed::Refused(Refusal::Torn);
     }
-    let s = k.settings;
+    let s = kept.settings;
     if judge::buckets_too_short(s, counts, thresholds) {
         return Pointed::Refused(Refusal::Tables);
     }
@@ -51,13 +57,13 @@ pub fn point(k: Record, believed: Shape, number: u64, counts: &[u64], thresholds
         return Pointed::Refused(Refusal::Point);
     }
     let needed = (s.buckets + 2) as usize;
-    let references = k.numbers.references as u32;
+    let references = kept.numbers.references as u32;
     match buckets::report(
         counts,
         thresholds,
         needed,
         number as usize,
-        k.threshold,
+        kept.threshold,
         references,
     ) {
         Reported::Sums(sums) => point_of(s, number, sums),
@@ -67,15 +73,15 @@ pub fn point(k: Record, believed: Shape, number: u64, counts: &[u64], thresholds
 
 // The same point as a pair of doubles: the size, and misses divided by total, rounded once.
 pub fn plot_point(
-    k: Record,
+    kept: Record,
     believed: Shape,
     number: u64,
     counts: &[u64],
     thresholds: &[u32],
 ) -> Plotted
-    ensures { λ r. ⌜ saidPlotted r ≡ plotOf k believed number (bucketsOf (now (counts .entry)) (now (thresholds .entry))) ⌝ }
+    ensures { λ r. ⌜ plotResult r ≡ plotOf kept believed number (bucketsOf (now (counts .entry)) (now (thresholds .entry))) ⌝ }
 {
-    match point(k, believed, number, counts, thresholds) {
+    match point(kept, believed, number, counts, thresholds) {
         Pointed::At(p) => Plotted::At(PlotPoint {
             size: p.size as f64,
             ratio: (p.misses as f64) / (p.total as f64),

@@ -10,13 +10,13 @@ use denote.Ref.{RefT, now}
 use Rattle.rules.specs.declared.Event.{Event}
 use Rattle.rules.specs.declared.Refusal.{Refusal}
 use Rattle.rules.specs.declared.Reading.the-variants as reading
-use Rattle.rules.specs.Answers.{Said, refused, gives, Got, number, saidReading}
+use Rattle.rules.specs.Answers.{Result, refused, gives, Got, number, readingResult}
 use Rattle.rules.specs.Events.{readOf, unreadAfter, unreadOf}
 use Rattle.rules.proofs.Events.{got, read-empty, taken}
 use Rattle.reader.specs.declared.Reader.{Reader}
 use Rattle.reader.specs.declared.Moved.{Moved}
-use Rattle.reader.specs.declared.Stepped.{Stepped}
-use Rattle.reader.specs.Reader.{leftAt, readAt, past, placeAfter, stepAt, saidStepped, begun, nextOf, saidMoved, wholeTo, wholeOf, takenBy, frontOf, steps, readings}
+use Rattle.reader.specs.declared.Advanced.{Advanced}
+use Rattle.reader.specs.Reader.{leftAt, readAt, past, placeAfter, stepAt, advancedResult, atFront, nextOf, movedResult, wholeTo, wholeOf, takenBy, frontOf, steps, readings}
 
 -- ---- a place at the end of the bytes or beyond it
 
@@ -36,12 +36,12 @@ module _ (bytes : List ℕ) (at : ℕ) (beyond : length bytes ≤ at) where
 pub left-after : (bytes : List ℕ) (at : ℕ) → leftAt bytes (placeAfter bytes at) ≡ unreadOf (leftAt bytes at)
 left-after bytes at = by (readAt bytes at)
   where
-    by : (q : Said Got) → drop (past at q) bytes ≡ unreadAfter q (drop at bytes)
+    by : (q : Result Got) → drop (past at q) bytes ≡ unreadAfter q (drop at bytes)
     by (refused n) = refl
     by (gives g) = sym (drop-drop (g .taken) at bytes)
 
 -- the same by the promise of `next` alone
-pub moved-left : (r : Reader) (m : Moved) → saidMoved m ≡ nextOf r → leftAt (now (m .reader .src)) (m .reader .at) ≡ unreadOf (leftAt (now (r .src)) (r .at))
+pub moved-left : (r : Reader) (m : Moved) → movedResult m ≡ nextOf r → leftAt (now (m .reader .src)) (m .reader .at) ≡ unreadOf (leftAt (now (r .src)) (r .at))
 moved-left r m k = ap (λ z. leftAt (now (z .reader .src)) (z .reader .at)) k ∙ left-after (now (r .src)) (r .at)
 
 -- a reader's steps say what reading says of what is left, with the unread part taken again and again
@@ -52,22 +52,22 @@ steps-read (suc n) r =
     ap (λ l. readAt (now (r .src)) (r .at) ∷ l) (steps-read n (nextOf r .reader) ∙ rw k)
 
 -- so do those of a reader that was just made, of all its bytes
-pub steps-begun : (n : ℕ) (src : RefT (List ℕ)) → steps n (begun src) ≡ readings n (now src)
-steps-begun n src = steps-read n (begun src)
+pub steps-from-front : (n : ℕ) (src : RefT (List ℕ)) → steps n (atFront src) ≡ readings n (now src)
+steps-from-front n src = steps-read n (atFront src)
 
 -- ---- the whole events at the front
 
 -- a reading is a refusal, or gives an event
-said-cases : {C : Type 0} (q : Said Got) → ((n : ℕ) → q ≡ refused n → C) → ((g : Got) → q ≡ gives g → C) → C
-said-cases (refused n) f g = f n refl
-said-cases (gives x) f g = g x refl
+result-cases : {C : Type 0} (q : Result Got) → ((n : ℕ) → q ≡ refused n → C) → ((g : Got) → q ≡ gives g → C) → C
+result-cases (refused n) f g = f n refl
+result-cases (gives x) f g = g x refl
 
 -- with a bound as large as the bytes, the bound does not matter
 to-enough : (m n : ℕ) (s : List ℕ) → length s ≤ m → length s ≤ n → wholeTo m s ≡ wholeTo n s
 to-enough zero zero s h k = refl
 to-enough zero (suc n) s h k = rw (read-empty s (omega arith))
 to-enough (suc m) zero s h k = rw (read-empty s (omega arith))
-to-enough (suc m) (suc n) s h k = said-cases (readOf s)
+to-enough (suc m) (suc n) s h k = result-cases (readOf s)
     (λ i e. rw e)
     (λ g e. let t = taken s e in rw e (ap (λ l. g ∷ l) (to-enough m n (drop (g .taken) s) (simp length-drop (omega arith)) (simp length-drop (omega arith)))))
 
@@ -89,11 +89,11 @@ whole-read bytes = to (length bytes) bytes
   where
     to : (m : ℕ) (s : List ℕ) → readings (length (wholeTo m s)) s ≡ map gives (wholeTo m s)
     to zero s = refl
-    to (suc m) s = said-cases (readOf s) (λ n e. rw e) (λ g e. simp e (ap (λ l. gives g ∷ l) (to m (drop (g .taken) s))))
+    to (suc m) s = result-cases (readOf s) (λ n e. rw e) (λ g e. simp e (ap (λ l. gives g ∷ l) (to m (drop (g .taken) s))))
 
 -- and what the first steps of a reader give
-pub whole-steps : (src : RefT (List ℕ)) → steps (length (wholeOf (now src))) (begun src) ≡ map gives (wholeOf (now src))
-whole-steps src = steps-begun (length (wholeOf (now src))) src ∙ whole-read (now src)
+pub whole-steps : (src : RefT (List ℕ)) → steps (length (wholeOf (now src))) (atFront src) ≡ map gives (wholeOf (now src))
+whole-steps src = steps-from-front (length (wholeOf (now src))) src ∙ whole-read (now src)
 
 -- reading is refused behind them
 pub whole-ends : (bytes : List ℕ) → (n : ℕ) × (readAt bytes (takenBy (wholeOf bytes)) ≡ refused n)
@@ -102,7 +102,7 @@ whole-ends bytes = to (length bytes) bytes (omega arith)
   where
     to : (m : ℕ) (s : List ℕ) → length s ≤ m → (n : ℕ) × (readOf (drop (takenBy (wholeTo m s)) s) ≡ refused n)
     to zero s h = (7, read-empty s (omega arith))
-    to (suc m) s h = said-cases (readOf s)
+    to (suc m) s h = result-cases (readOf s)
         (λ n e. (n, rw e e))
         (λ g e. let t = taken s e in rw (e, ← drop-drop) (to m (drop (g .taken) s) (simp length-drop (omega arith))))
 
@@ -119,18 +119,18 @@ Counted bytes events at =
 pub counted-none : (bytes : List ℕ) → Counted bytes 0 0
 counted-none bytes = (zero-add _, zero-add _, omega arith, omega arith)
 
-module _ (bytes : List ℕ) (events at : ℕ) (counted : Counted bytes events at) (s : Stepped) (step : saidStepped s ≡ stepAt bytes at) where
+module _ (bytes : List ℕ) (events at : ℕ) (counted : Counted bytes events at) (s : Advanced) (step : advancedResult s ≡ stepAt bytes at) where
   -- a refusal ends the count
   pub counted-all : (r : Refusal) → s .reading ≡ reading.Refused r → record { events = events; at = at } ≡ frontOf bytes
   counted-all r is =
-      let none = whole-refused (leftAt bytes at) (number r) (sym (ap (λ z. z .said) step) ∙ ap saidReading is) in
+      let none = whole-refused (leftAt bytes at) (number r) (sym (ap (λ z. z .result) step) ∙ ap readingResult is) in
       let count : events ≡ length (wholeOf bytes) = sym (add-zero events) ∙ rw none at (counted .0) in
       let place : at ≡ takenBy (wholeOf bytes) = sym (add-zero at) ∙ rw none at (counted .1) in
       rw (← count, ← place)
 
   module _ (e : Event) (n : ℕ) (is : s .reading ≡ reading.Got e n) where
     got-at : readAt bytes at ≡ got e n
-    got-at = sym (ap (λ z. z .said) step) ∙ ap saidReading is
+    got-at = sym (ap (λ z. z .result) step) ∙ ap readingResult is
 
     past-at : s .at ≡ at + n
     past-at = ap (λ z. z .at) step ∙ rw got-at

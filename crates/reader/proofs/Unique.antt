@@ -7,15 +7,15 @@ use Rattle.rules.proofs.Answers.{reading-injective}
 use Rattle.reader.specs.declared.Reader.{Reader}
 use Rattle.reader.specs.declared.Moved.{Moved}
 use Rattle.reader.specs.declared.Front.{Front}
-use Rattle.reader.specs.Reader.{leftAt, begun, nextOf, saidMoved, frontOf}
+use Rattle.reader.specs.Reader.{leftAt, atFront, nextOf, movedResult, frontOf}
 
-pub new-once : (src : RefT (List ℕ)) (a b : Reader) → a ≡ begun src → b ≡ begun src → a ≡ b
+pub new-once : (src : RefT (List ℕ)) (a b : Reader) → a ≡ atFront src → b ≡ atFront src → a ≡ b
 new-once src a b p q = p ∙ sym q
 
-pub next-once : (r : Reader) (a b : Moved) → saidMoved a ≡ nextOf r → saidMoved b ≡ nextOf r → a ≡ b
+pub next-once : (r : Reader) (a b : Moved) → movedResult a ≡ nextOf r → movedResult b ≡ nextOf r → a ≡ b
 next-once r a b p q =
     let k = p ∙ sym q in
-    let reading = reading-injective (a .reading) (b .reading) (ap (λ z. z .said) k) in
+    let reading = reading-injective (a .reading) (b .reading) (ap (λ z. z .result) k) in
     let reader = ap (λ z. z .reader) k in
     λ i. record { reading = reading i; reader = reader i }
 

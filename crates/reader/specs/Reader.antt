@@ -3,11 +3,11 @@ use Prim.Native.Nat.{ℕ, zero, suc, _+_}
 use mathlib.Core.List.{List, [], _∷_}
 use lib.ListN.{length, drop}
 use denote.Ref.{RefT, now}
-use Rattle.rules.specs.Answers.{Said, refused, gives, Got, saidReading}
+use Rattle.rules.specs.Answers.{Result, refused, gives, Got, readingResult}
 use Rattle.rules.specs.Events.{readOf, unreadOf}
 use Rattle.reader.specs.declared.Reader.{Reader}
 use Rattle.reader.specs.declared.Moved.{Moved}
-use Rattle.reader.specs.declared.Stepped.{Stepped}
+use Rattle.reader.specs.declared.Advanced.{Advanced}
 use Rattle.reader.specs.declared.Front.{Front}
 
 -- what stands from a place on: nothing, where the place is beyond the bytes
@@ -15,11 +15,11 @@ abbrev pub leftAt : (bytes : List ℕ) (at : ℕ) → List ℕ
 leftAt bytes at = drop at bytes
 
 -- the reading at a place
-abbrev pub readAt : (bytes : List ℕ) (at : ℕ) → Said Got
+abbrev pub readAt : (bytes : List ℕ) (at : ℕ) → Result Got
 readAt bytes at = readOf (leftAt bytes at)
 
 -- the place past an event, or the same place where it is refused
-abbrev pub past : (at : ℕ) → Said Got → ℕ
+abbrev pub past : (at : ℕ) → Result Got → ℕ
 past at (refused n) = at
 past at (gives g) = at + g .taken
 
@@ -27,33 +27,33 @@ abbrev pub placeAfter : (bytes : List ℕ) (at : ℕ) → ℕ
 placeAfter bytes at = past at (readAt bytes at)
 
 -- a step over plain bytes: the reading at a place, and the place after it
-pub record Stepping : Type 0 where
-  pub said : Said Got
+pub record Advancing : Type 0 where
+  pub result : Result Got
   pub at : ℕ
 
-abbrev pub stepAt : (bytes : List ℕ) (at : ℕ) → Stepping
-stepAt bytes at = record { said = readAt bytes at; at = placeAfter bytes at }
+abbrev pub stepAt : (bytes : List ℕ) (at : ℕ) → Advancing
+stepAt bytes at = record { result = readAt bytes at; at = placeAfter bytes at }
 
-abbrev pub saidStepped : Stepped → Stepping
-saidStepped s = record { said = saidReading (s .reading); at = s .at }
+abbrev pub advancedResult : Advanced → Advancing
+advancedResult s = record { result = readingResult (s .reading); at = s .at }
 
 -- a reader at the front of the bytes
-abbrev pub begun : RefT (List ℕ) → Reader
-begun src = record { src = src; at = 0 }
+abbrev pub atFront : RefT (List ℕ) → Reader
+atFront src = record { src = src; at = 0 }
 
 -- a reader's step: the reading at its place, and the reader of the same bytes at the place after it
 pub record Moving : Type 0 where
-  pub said : Said Got
+  pub result : Result Got
   pub reader : Reader
 
 abbrev pub nextOf : Reader → Moving
-nextOf r = record { said = readAt (now (r .src)) (r .at); reader = record { src = r .src; at = placeAfter (now (r .src)) (r .at) } }
+nextOf r = record { result = readAt (now (r .src)) (r .at); reader = record { src = r .src; at = placeAfter (now (r .src)) (r .at) } }
 
-abbrev pub saidMoved : Moved → Moving
-saidMoved n = record { said = saidReading (n .reading); reader = n .reader }
+abbrev pub movedResult : Moved → Moving
+movedResult n = record { result = readingResult (n .reading); reader = n .reader }
 
 -- an event before those that follow it; none, where it is refused
-abbrev pub before : Said Got → List Got → List Got
+abbrev pub before : Result Got → List Got → List Got
 before (refused n) rest = []
 before (gives g) rest = g ∷ rest
 
@@ -76,11 +76,11 @@ abbrev pub frontOf : List ℕ → Front
 frontOf bytes = record { events = length (wholeOf bytes); at = takenBy (wholeOf bytes) }
 
 -- what a reader's steps say, n of them
-abbrev pub steps : (n : ℕ) → Reader → List (Said Got)
+abbrev pub steps : (n : ℕ) → Reader → List (Result Got)
 steps zero r = []
-steps (suc n) r = nextOf r .said ∷ steps n (nextOf r .reader)
+steps (suc n) r = nextOf r .result ∷ steps n (nextOf r .reader)
 
 -- what reading says, with the unread part taken again and again
-abbrev pub readings : (n : ℕ) → List ℕ → List (Said Got)
+abbrev pub readings : (n : ℕ) → List ℕ → List (Result Got)
 readings zero bytes = []
 readings (suc n) bytes = readOf bytes ∷ readings n (unreadOf bytes)

@@ -2,7 +2,7 @@
 // The borrow checker covers no function over such a struct: `new`, `next`, `left` and `step` are proved by hand. So they
 // are thin, and the work is done by functions over the bytes and the place.
 ghost use mathlib.Core.Path.{_≡_};
-ghost use Rattle.reader.specs.Reader.{leftAt, stepAt, saidStepped, begun, nextOf, saidMoved, frontOf};
+ghost use Rattle.reader.specs.Reader.{leftAt, stepAt, advancedResult, atFront, nextOf, movedResult, frontOf};
 use rules::Reading;
 
 pub struct Reader<'a> {
@@ -17,7 +17,7 @@ pub struct Moved<'a> {
 }
 
 // The same of plain bytes: the reading at a place, with the place past the event, or the same place.
-struct Stepped {
+struct Advanced {
     reading: Reading,
     at: usize,
 }
@@ -40,29 +40,29 @@ fn left_at(bytes: &[u8], at: usize) -> &[u8]
 }
 
 // The work of a step.
-fn step_at(bytes: &[u8], at: usize) -> Stepped
-    ensures { λ r. ⌜ saidStepped r ≡ stepAt (now (bytes .entry)) at ⌝ }
+fn step_at(bytes: &[u8], at: usize) -> Advanced
+    ensures { λ r. ⌜ advancedResult r ≡ stepAt (now (bytes .entry)) at ⌝ }
 {
-    let reading = trace::read(left_at(bytes, at));
+    let reading = reading::read(left_at(bytes, at));
     match reading {
-        Reading::Got(_, taken) => Stepped {
+        Reading::Got(_, taken) => Advanced {
             reading,
             at: at + taken,
         },
-        Reading::Refused(_) => Stepped { reading, at },
+        Reading::Refused(_) => Advanced { reading, at },
     }
 }
 
 // A reader at the front of the bytes.
 pub fn new<'a>(src: &'a [u8]) -> Reader<'a>
-    ensures { λ r. ⌜ r ≡ begun (src .entry) ⌝ }
+    ensures { λ r. ⌜ r ≡ atFront (src .entry) ⌝ }
 {
     Reader { src, at: 0 }
 }
 
 // The reading at the reader's place, and the reader to go on with.
 pub fn next<'a>(r: Reader<'a>) -> Moved<'a>
-    ensures { λ n. ⌜ saidMoved n ≡ nextOf (r .entry) ⌝ }
+    ensures { λ n. ⌜ movedResult n ≡ nextOf (r .entry) ⌝ }
 {
     let step = step_at(r.src, r.at);
     Moved {
@@ -82,11 +82,11 @@ pub fn left<'a>(r: Reader<'a>) -> &'a [u8]
 }
 
 // A reader's step with plain parameters, so that no caller needs a proof by hand.
-fn step(bytes: &[u8], at: usize) -> Stepped
-    ensures { λ s. ⌜ saidStepped s ≡ stepAt (now (bytes .entry)) at ⌝ }
+fn step(bytes: &[u8], at: usize) -> Advanced
+    ensures { λ s. ⌜ advancedResult s ≡ stepAt (now (bytes .entry)) at ⌝ }
 {
     let n = next(Reader { src: bytes, at });
-    Stepped {
+    Advanced {
         reading: n.reading,
         at: n.reader.at,
     }

@@ -27,8 +27,9 @@ use Rattle.rules.specs.declared.Found.{Found}
 use Rattle.rules.specs.declared.Found.the-variants as found
 use Rattle.rules.specs.declared.Reported.{Reported}
 use Rattle.rules.specs.declared.Reported.the-variants as reported
+use Rattle.rules.specs.Settings.{Tables}
 use Rattle.rules.specs.Reference.{Reply, skipped, first, again}
-use Rattle.rules.specs.Answers.{Said, refused, gives, number, numberOf, Got, saidStarted, saidAnswer, saidPointed, saidPlotted, saidTaken, saidReading, saidWritten, saidReported, placeFound}
+use Rattle.rules.specs.Answers.{Result, refused, gives, number, numberOf, Got, startedResult, replyResult, pointResult, plotResult, takenResult, readingResult, writtenResult, reportResult, placeFound}
 
 -- what undoes a reading makes it injective
 undone : {A B : Type 0} (f : A → B) (g : B → A) → ((a : A) → g (f a) ≡ a) → (a b : A) → f a ≡ f b → a ≡ b
@@ -73,18 +74,18 @@ number-some refusal.Short e = omega arith
 number-some refusal.Kind e = omega arith
 number-some refusal.Empty e = omega arith
 
-pub number-refused : {A : Type 0} (s : Said A) → 0 < numberOf s → s ≡ refused (numberOf s)
+pub number-refused : {A : Type 0} (s : Result A) → 0 < numberOf s → s ≡ refused (numberOf s)
 number-refused (refused n) h = refl
 number-refused (gives a) h = absurd (omega arith)
 
 -- an answer back from what it says: refusals by their number, the rest by its own constructor
-back : {A B : Type 0} → (Refusal → B) → (A → B) → Said A → B
+back : {A B : Type 0} → (Refusal → B) → (A → B) → Result A → B
 back refusing giving (refused n) = refusing (named n)
 back refusing giving (gives a) = giving a
 
-pub started-injective : (a b : Started) → saidStarted a ≡ saidStarted b → a ≡ b
+pub started-injective : (a b : Started) → startedResult a ≡ startedResult b → a ≡ b
 unfolding back
-started-injective = undone saidStarted (back started.Refused started.Ready)
+started-injective = undone startedResult (back started.Refused started.Ready)
     (elim [ started.Ready k ↦ refl | started.Refused r ↦ ap started.Refused (named-number r) ])
 
 replied : Reply → Answer
@@ -92,39 +93,39 @@ replied skipped = answer.Skipped
 replied first = answer.First
 replied (again d) = answer.Again d
 
-pub answer-injective : (a b : Answer) → saidAnswer a ≡ saidAnswer b → a ≡ b
+pub answer-injective : (a b : Answer) → replyResult a ≡ replyResult b → a ≡ b
 unfolding back replied
-answer-injective = undone saidAnswer (back answer.Refused replied)
+answer-injective = undone replyResult (back answer.Refused replied)
     (elim [ answer.Skipped ↦ refl | answer.Again d ↦ refl | answer.First ↦ refl | answer.Refused r ↦ ap answer.Refused (named-number r) ])
 
-pub pointed-injective : (a b : Pointed) → saidPointed a ≡ saidPointed b → a ≡ b
+pub pointed-injective : (a b : Pointed) → pointResult a ≡ pointResult b → a ≡ b
 unfolding back
-pointed-injective = undone saidPointed (back pointed.Refused pointed.At)
+pointed-injective = undone pointResult (back pointed.Refused pointed.At)
     (elim [ pointed.At p ↦ refl | pointed.Refused r ↦ ap pointed.Refused (named-number r) ])
 
-pub plotted-injective : (a b : Plotted) → saidPlotted a ≡ saidPlotted b → a ≡ b
+pub plotted-injective : (a b : Plotted) → plotResult a ≡ plotResult b → a ≡ b
 unfolding back
-plotted-injective = undone saidPlotted (back plotted.Refused plotted.At)
+plotted-injective = undone plotResult (back plotted.Refused plotted.At)
     (elim [ plotted.At p ↦ refl | plotted.Refused r ↦ ap plotted.Refused (named-number r) ])
 
-pub taken-injective : (a b : Taken) → saidTaken a ≡ saidTaken b → a ≡ b
+pub taken-injective : (a b : Taken) → takenResult a ≡ takenResult b → a ≡ b
 unfolding back
-taken-injective = undone saidTaken (back taken.Refused (λ (u : Unit {0}). taken.Whole))
+taken-injective = undone takenResult (back taken.Refused (λ (u : Unit {0}). taken.Whole))
     (elim [ taken.Whole ↦ refl | taken.Refused r ↦ ap taken.Refused (named-number r) ])
 
-pub reading-injective : (a b : Reading) → saidReading a ≡ saidReading b → a ≡ b
+pub reading-injective : (a b : Reading) → readingResult a ≡ readingResult b → a ≡ b
 unfolding back
-reading-injective = undone saidReading (back reading.Refused (λ (g : Got). reading.Got (g .event) (g .taken)))
+reading-injective = undone readingResult (back reading.Refused (λ (g : Got). reading.Got (g .event) (g .taken)))
     (elim [ reading.Got e n ↦ refl | reading.Refused r ↦ ap reading.Refused (named-number r) ])
 
-pub written-injective : (a b : Written) → saidWritten a ≡ saidWritten b → a ≡ b
+pub written-injective : (a b : Written) → writtenResult a ≡ writtenResult b → a ≡ b
 unfolding back
-written-injective = undone saidWritten (back written.Refused written.Filled)
+written-injective = undone writtenResult (back written.Refused written.Filled)
     (elim [ written.Filled n ↦ refl | written.Refused r ↦ ap written.Refused (named-number r) ])
 
-pub reported-injective : (a b : Reported) → saidReported a ≡ saidReported b → a ≡ b
+pub reported-injective : (a b : Reported) → reportResult a ≡ reportResult b → a ≡ b
 unfolding back
-reported-injective = undone saidReported (back (λ (r : Refusal). reported.Torn) reported.Sums)
+reported-injective = undone reportResult (back (λ (r : Refusal). reported.Torn) reported.Sums)
     (elim [ reported.Sums s ↦ refl | reported.Torn ↦ refl ])
 
 place : Option ℕ → Found

@@ -8,7 +8,7 @@ use lib.ListN.{length}
 use borrow.Author.Tests.{eqb-false, ltb-false, ne-eqb, le-ltb}
 use Rattle.rules.specs.declared.Settings.{Settings}
 use Rattle.rules.specs.declared.Record.{Record}
-use Rattle.rules.specs.Settings.{P, outOfRange, Histogram, Tables, needed}
+use Rattle.rules.specs.Settings.{outOfRange, Histogram, Tables, needed, fullRate}
 use Rattle.rules.specs.Reference.{rescaled}
 use Rattle.rules.specs.Conditions.{bucketsTooShort, tooShort, tornRecord, tornBucket}
 use Rattle.rules.proofs.Tests.{neither}
@@ -50,35 +50,35 @@ in-range s e =
     }
 
 -- a record that is not torn
-pub record Whole (k : Record) : Type 0 where
-  pub settings-whole : outOfRange (k .settings) ≡ false
-  pub range : InRange (k .settings)
-  pub live-high : k .live ≤ k .settings .limit
-  pub threshold-high : k .threshold ≤ k .settings .start
-  pub sampled-high : k .numbers .sampled ≤ k .numbers .references
-  pub references-high : k .numbers .references ≤ 4294967295
+pub record Whole (kept : Record) : Type 0 where
+  pub settings-whole : outOfRange (kept .settings) ≡ false
+  pub range : InRange (kept .settings)
+  pub live-high : kept .live ≤ kept .settings .limit
+  pub threshold-high : kept .threshold ≤ kept .settings .start
+  pub sampled-high : kept .numbers .sampled ≤ kept .numbers .references
+  pub references-high : kept .numbers .references ≤ 4294967295
 
-pub whole : (k : Record) → tornRecord k ≡ false → Whole k
+pub whole : (kept : Record) → tornRecord kept ≡ false → Whole kept
 unfolding tornRecord
-whole k e =
+whole kept e =
     let p5 = neither e in
     let p4 = neither (p5 .0) in
     let p3 = neither (p4 .0) in
     let p2 = neither (p3 .0) in
     record {
       settings-whole = p2 .0;
-      range = in-range (k .settings) (p2 .0);
-      live-high = ltb-false (k .settings .limit) (k .live) (p2 .1);
-      threshold-high = ltb-false (k .settings .start) (k .threshold) (p3 .1);
-      sampled-high = ltb-false (k .numbers .references) (k .numbers .sampled) (p4 .1);
-      references-high = ltb-false 4294967295 (k .numbers .references) (p5 .1);
+      range = in-range (kept .settings) (p2 .0);
+      live-high = ltb-false (kept .settings .limit) (kept .live) (p2 .1);
+      threshold-high = ltb-false (kept .settings .start) (kept .threshold) (p3 .1);
+      sampled-high = ltb-false (kept .numbers .references) (kept .numbers .sampled) (p4 .1);
+      references-high = ltb-false 4294967295 (kept .numbers .references) (p5 .1);
     }
 
 -- and the other way round
-pub untorn : (k : Record) → outOfRange (k .settings) ≡ false → k .live ≤ k .settings .limit → k .threshold ≤ k .settings .start
-    → k .numbers .sampled ≤ k .numbers .references → k .numbers .references ≤ 4294967295 → tornRecord k ≡ false
+pub untorn : (kept : Record) → outOfRange (kept .settings) ≡ false → kept .live ≤ kept .settings .limit → kept .threshold ≤ kept .settings .start
+    → kept .numbers .sampled ≤ kept .numbers .references → kept .numbers .references ≤ 4294967295 → tornRecord kept ≡ false
 unfolding tornRecord
-untorn k e l t n r = rw (e, le-ltb _ _ l, le-ltb _ _ t, le-ltb _ _ n, le-ltb _ _ r)
+untorn kept e l t n r = rw (e, le-ltb _ _ l, le-ltb _ _ t, le-ltb _ _ n, le-ltb _ _ r)
 
 -- bucket tables that are long enough
 pub buckets-long : (s : Settings) (g : Histogram) → bucketsTooShort s g ≡ false → Long (needed (s .buckets)) g
@@ -108,7 +108,7 @@ buckets-none-short s t e = let l = all-long s t e .buckets in rw (le-ltb _ _ (l 
 pub record Sound (references t count threshold : ℕ) : Type 0 where
   pub some : threshold ≡ 0 → ⊥
   pub above : t ≤ threshold
-  pub under : threshold ≤ P
+  pub under : threshold ≤ fullRate
   pub counted : count ≤ 256 * references
 
 pub sound : (references t count threshold : ℕ) → tornBucket references t count threshold ≡ false → Sound references t count threshold
@@ -120,7 +120,7 @@ sound references t count threshold e =
     record {
       some = eqb-false threshold 0 (p1 .0);
       above = ltb-false threshold t (p1 .1);
-      under = ltb-false P threshold (p2 .1);
+      under = ltb-false fullRate threshold (p2 .1);
       counted = ltb-false (256 * references) count (p3 .1);
     }
 

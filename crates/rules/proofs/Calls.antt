@@ -2,7 +2,7 @@
 use Prim.Native.Nat.{ℕ, _+_, _≤_}
 use mathlib.Core.Path.{_≡_, refl, ap}
 use mathlib.Core.Bool.{true, false}
-use mathlib.Core.List.{List, _∷_}
+use mathlib.Core.List.{List, [], _∷_}
 use native.Mathlib.Omega.{arith}
 use lib.ListN.{length, length-take}
 use lib.Dec.{ltb, eqb}
@@ -12,197 +12,212 @@ use Rattle.rules.specs.declared.Numbers.{Numbers}
 use Rattle.rules.specs.declared.Record.{Record}
 use Rattle.rules.specs.declared.Shape.{Shape}
 use Rattle.rules.specs.declared.Point.{Point}
+use Rattle.rules.specs.declared.PlotPoint.{PlotPoint}
 use Rattle.rules.specs.Lists.{has}
 use Rattle.rules.specs.Settings.{withDefaults, outOfRange, Histogram, Tables, needed, mostReferences}
-use Rattle.rules.specs.Reference.{Sample, Profile, under, lowered, settled, Reply, skipped, first, again, Stepped, step}
-use Rattle.rules.specs.Curve.{totalOf, curvePoint}
-use Rattle.rules.specs.Answers.{refused, gives}
-use Rattle.rules.specs.Order.{FirstAt, refusalAt}
-use Rattle.rules.specs.Layout.{Held, sampleOf, hashFor, profileOf, counted, laid, freshTables, freshRecord}
+use Rattle.rules.specs.Reference.{Sample, Profile, under, lowered, withinLimit, Reply, skipped, first, again, Stepped, step}
+use Rattle.rules.specs.Curve.{totalOf, curvePoint, plotPoint}
+use Rattle.rules.specs.Answers.{refused, gives, Result}
+use Rattle.rules.specs.Order.{FirstAt, refusalAt, outcome, Outcome, says, Judged}
+use Rattle.rules.specs.Layout.{Tracker, sampleOf, hashFor, profileOf, counted, stored, freshTables, freshRecord}
 use Rattle.rules.specs.Conditions.{bucketsTooShort, tooShort, tornRecord, tornReport, tornFor, full, stale}
-use Rattle.rules.specs.Calls.{refusing, Beginning, setupOrder, setupOf, restartOrder, restartOf, stepOf, referOrder, referOf, pointOrder, pointOf}
+use Rattle.rules.specs.Calls.{setupOrder, setupOf, restartOrder, restartOf, stepOf, referOrder, referOf, pointOrder, pointOf, plotOf}
 use Rattle.rules.proofs.Tests.{cases}
 use Rattle.rules.proofs.Order.{not-both, either, says-refused, leaves-first, says-accepted}
 use Rattle.rules.proofs.Lists.{length-erase}
 use Rattle.rules.proofs.Tables.{over-front, over-length}
 use Rattle.rules.proofs.Buckets.{Long, long-record}
 use Rattle.rules.proofs.Bounds.{Whole, whole, untorn, AllLong, all-long, none-short}
-use Rattle.rules.proofs.Steps.{step-skipped, step-again, step-first, settled-histogram, largest-leaves}
+use Rattle.rules.proofs.Steps.{step-skipped, step-again, step-first, within-limit-histogram, largest-leaves}
 use Rattle.rules.proofs.Clean.{step-falls}
 
 -- ---- setup and restart
 
 -- what an accepted start leaves: a fresh start under settings in range, with tables long enough
-pub record Begins (s : Settings) (t : Tables) (b : Beginning) : Type 0 where
+pub record Begins (s : Settings) (t : Tables) (b : Outcome Record Tables) : Type 0 where
   pub range : outOfRange s ≡ false
   pub long : tooShort s t ≡ false
-  pub is : b ≡ record { said = gives (freshRecord s); tables = freshTables s t }
+  pub is : b ≡ record { result = gives (freshRecord s); left = freshTables s t }
 
 module _ (s : Settings) (t : Tables) where
-  setup-refused : (i : ℕ) → FirstAt i (setupOrder s t) → setupOf s t ≡ record { said = refused (refusalAt i (setupOrder s t)); tables = t }
+  setup-refused : (i : ℕ) → FirstAt i (setupOrder s t) → setupOf s t ≡ record { result = refused (refusalAt i (setupOrder s t)); left = t }
   unfolding setupOf
   setup-refused n f = let order = setupOrder s t in let set = withDefaults s in
-      λ i. record { said = says-refused n order (freshRecord set) f i; tables = leaves-first n order t (freshTables set t) f i }
+      λ i. record { result = says-refused n order (freshRecord set) f i; left = leaves-first n order t (freshTables set t) f i }
 
-  pub setup-range : outOfRange (withDefaults s) ≡ true → setupOf s t ≡ record { said = refused 1; tables = t }
+  pub setup-range : outOfRange (withDefaults s) ≡ true → setupOf s t ≡ record { result = refused 1; left = t }
   setup-range e = setup-refused 0 e
 
-  pub setup-short : outOfRange (withDefaults s) ≡ false → tooShort (withDefaults s) t ≡ true → setupOf s t ≡ record { said = refused 2; tables = t }
+  pub setup-short : outOfRange (withDefaults s) ≡ false → tooShort (withDefaults s) t ≡ true → setupOf s t ≡ record { result = refused 2; left = t }
   setup-short e f = setup-refused 1 (e, f)
 
-  pub setup-accept : outOfRange (withDefaults s) ≡ false → tooShort (withDefaults s) t ≡ false → setupOf s t ≡ record { said = gives (freshRecord (withDefaults s)); tables = freshTables (withDefaults s) t }
+  pub setup-accept : outOfRange (withDefaults s) ≡ false → tooShort (withDefaults s) t ≡ false → setupOf s t ≡ record { result = gives (freshRecord (withDefaults s)); left = freshTables (withDefaults s) t }
   unfolding setupOf
   setup-accept e f = rw (e, f)
 
   -- either nothing refuses it, or it is refused and leaves the tables as they were
-  pub setup-either : {C : Type 0} → (Begins (withDefaults s) t (setupOf s t) → C) → ((n : ℕ) → setupOf s t ≡ record { said = refused n; tables = t } → C) → C
+  pub setup-either : {C : Type 0} → (Begins (withDefaults s) t (setupOf s t) → C) → ((n : ℕ) → setupOf s t ≡ record { result = refused n; left = t } → C) → C
   setup-either accept refuse = either (setupOrder s t)
       (λ w. accept (record { range = w .0; long = w .1 .0; is = setup-accept (w .0) (w .1 .0) }))
       (λ i f. refuse (refusalAt i (setupOrder s t)) (setup-refused i f))
 
-  pub setup-begins : (k : Record) → setupOf s t .said ≡ gives k → Begins (withDefaults s) t (setupOf s t)
-  setup-begins k a = setup-either (λ w. w) (λ n e. absurd (not-both (ap (λ b. b .said) e) a))
+  pub setup-begins : (kept : Record) → setupOf s t .result ≡ gives kept → Begins (withDefaults s) t (setupOf s t)
+  setup-begins kept a = setup-either (λ w. w) (λ n e. absurd (not-both (ap (λ b. b .result) e) a))
 
-module _ (k : Record) (t : Tables) where
-  restart-refused : (i : ℕ) → FirstAt i (restartOrder k t) → restartOf k t ≡ record { said = refused (refusalAt i (restartOrder k t)); tables = t }
+module _ (kept : Record) (t : Tables) where
+  restart-refused : (i : ℕ) → FirstAt i (restartOrder kept t) → restartOf kept t ≡ record { result = refused (refusalAt i (restartOrder kept t)); left = t }
   unfolding restartOf
-  restart-refused n f = let order = restartOrder k t in let set = k .settings in
-      λ i. record { said = says-refused n order (freshRecord set) f i; tables = leaves-first n order t (freshTables set t) f i }
+  restart-refused n f = let order = restartOrder kept t in let set = kept .settings in
+      λ i. record { result = says-refused n order (freshRecord set) f i; left = leaves-first n order t (freshTables set t) f i }
 
-  pub restart-torn : tornRecord k ≡ true → restartOf k t ≡ record { said = refused 3; tables = t }
+  pub restart-torn : tornRecord kept ≡ true → restartOf kept t ≡ record { result = refused 3; left = t }
   restart-torn e = restart-refused 0 e
 
-  pub restart-short : tornRecord k ≡ false → tooShort (k .settings) t ≡ true → restartOf k t ≡ record { said = refused 2; tables = t }
+  pub restart-short : tornRecord kept ≡ false → tooShort (kept .settings) t ≡ true → restartOf kept t ≡ record { result = refused 2; left = t }
   restart-short e f = restart-refused 1 (e, f)
 
-  pub restart-accept : tornRecord k ≡ false → tooShort (k .settings) t ≡ false → restartOf k t ≡ record { said = gives (freshRecord (k .settings)); tables = freshTables (k .settings) t }
+  pub restart-accept : tornRecord kept ≡ false → tooShort (kept .settings) t ≡ false → restartOf kept t ≡ record { result = gives (freshRecord (kept .settings)); left = freshTables (kept .settings) t }
   unfolding restartOf
   restart-accept e f = rw (e, f)
 
-  pub restart-either : {C : Type 0} → (Begins (k .settings) t (restartOf k t) → C) → ((n : ℕ) → restartOf k t ≡ record { said = refused n; tables = t } → C) → C
-  restart-either accept refuse = either (restartOrder k t)
-      (λ w. accept (record { range = whole k (w .0) .settings-whole; long = w .1 .0; is = restart-accept (w .0) (w .1 .0) }))
-      (λ i f. refuse (refusalAt i (restartOrder k t)) (restart-refused i f))
+  pub restart-either : {C : Type 0} → (Begins (kept .settings) t (restartOf kept t) → C) → ((n : ℕ) → restartOf kept t ≡ record { result = refused n; left = t } → C) → C
+  restart-either accept refuse = either (restartOrder kept t)
+      (λ w. accept (record { range = whole kept (w .0) .settings-whole; long = w .1 .0; is = restart-accept (w .0) (w .1 .0) }))
+      (λ i f. refuse (refusalAt i (restartOrder kept t)) (restart-refused i f))
 
-  pub restart-begins : (j : Record) → restartOf k t .said ≡ gives j → Begins (k .settings) t (restartOf k t)
-  restart-begins j a = restart-either (λ w. w) (λ n e. absurd (not-both (ap (λ b. b .said) e) a))
+  pub restart-begins : (j : Record) → restartOf kept t .result ≡ gives j → Begins (kept .settings) t (restartOf kept t)
+  restart-begins j a = restart-either (λ w. w) (λ n e. absurd (not-both (ap (λ b. b .result) e) a))
 
 -- ---- a reference
 
 -- nothing refuses it
-pub record Accepted (x : ℕ) (s : Held) : Type 0 where
+pub record Accepted (x : ℕ) (s : Tracker) : Type 0 where
   pub record-whole : tornRecord (s .kept) ≡ false
   pub tables-long : tooShort (s .kept .settings) (s .tables) ≡ false
   pub room : full (s .kept .numbers) ≡ false
   pub bucket-sound : tornFor x s ≡ false
 
-module _ (x : ℕ) (s : Held) where
-  refer-refused : (i : ℕ) → FirstAt i (referOrder x s) → referOf x s ≡ refusing (refusalAt i (referOrder x s)) s
+module _ (x : ℕ) (s : Tracker) where
+  refer-refused : (i : ℕ) → FirstAt i (referOrder x s) → referOf x s ≡ outcome (refused (refusalAt i (referOrder x s))) s
   unfolding referOf
   refer-refused n f = let order = referOrder x s in
-      λ i. record { said = says-refused n order (stepOf x s .reply) f i; left = leaves-first n order s (laid (stepOf x s) s) f i }
+      λ i. record { result = says-refused n order (stepOf x s .reply) f i; left = leaves-first n order s (stored (stepOf x s) s) f i }
 
-  pub refer-torn : tornRecord (s .kept) ≡ true → referOf x s ≡ refusing 3 s
+  pub refer-torn : tornRecord (s .kept) ≡ true → referOf x s ≡ outcome (refused 3) s
   refer-torn e = refer-refused 0 e
 
   module _ (e : tornRecord (s .kept) ≡ false) where
-    pub refer-short : tooShort (s .kept .settings) (s .tables) ≡ true → referOf x s ≡ refusing 2 s
+    pub refer-short : tooShort (s .kept .settings) (s .tables) ≡ true → referOf x s ≡ outcome (refused 2) s
     refer-short f = refer-refused 1 (e, f)
 
     module _ (f : tooShort (s .kept .settings) (s .tables) ≡ false) where
-      pub refer-full : full (s .kept .numbers) ≡ true → referOf x s ≡ refusing 4 s
+      pub refer-full : full (s .kept .numbers) ≡ true → referOf x s ≡ outcome (refused 4) s
       refer-full g = refer-refused 2 (e, (f, g))
 
-      pub refer-bucket : full (s .kept .numbers) ≡ false → tornFor x s ≡ true → referOf x s ≡ refusing 3 s
+      pub refer-bucket : full (s .kept .numbers) ≡ false → tornFor x s ≡ true → referOf x s ≡ outcome (refused 3) s
       refer-bucket g h = refer-refused 3 (e, (f, (g, h)))
 
-  pub refer-accept : Accepted x s → referOf x s ≡ record { said = gives (stepOf x s .reply); left = laid (stepOf x s) s }
+  pub refer-accept : Accepted x s → referOf x s ≡ record { result = gives (stepOf x s .reply); left = stored (stepOf x s) s }
   unfolding referOf
   refer-accept a = rw (a .record-whole, a .tables-long, a .room, a .bucket-sound)
 
   -- either nothing refuses it, or it is refused and leaves all as it was
-  pub refer-either : {C : Type 0} → (Accepted x s → C) → ((n : ℕ) → referOf x s ≡ refusing n s → C) → C
+  pub refer-either : {C : Type 0} → (Accepted x s → C) → ((n : ℕ) → referOf x s ≡ outcome (refused n) s → C) → C
   refer-either accept refuse = either (referOrder x s)
       (λ w. accept (record { record-whole = w .0; tables-long = w .1 .0; room = w .1 .1 .0; bucket-sound = w .1 .1 .1 .0 }))
       (λ i f. refuse (refusalAt i (referOrder x s)) (refer-refused i f))
 
-  pub refer-accepted : (r : Reply) → referOf x s .said ≡ gives r → Accepted x s
-  refer-accepted r a = refer-either (λ w. w) (λ n e. absurd (not-both (ap (λ o. o .said) e) a))
+  pub refer-accepted : (r : Reply) → referOf x s .result ≡ gives r → Accepted x s
+  refer-accepted r a = refer-either (λ w. w) (λ n e. absurd (not-both (ap (λ o. o .result) e) a))
 
 -- ---- a point
 
 -- nothing refuses it
-pub record Answered (k : Record) (believed : Shape) (n : ℕ) (g : Histogram) : Type 0 where
-  pub record-whole : tornRecord k ≡ false
-  pub buckets-long : bucketsTooShort (k .settings) g ≡ false
-  pub shape-same : stale believed (k .settings) ≡ false
-  pub on-curve : ltb (k .settings .buckets) n ≡ false
-  pub report-whole : tornReport (k .numbers .references) (k .threshold) (k .settings .buckets) g ≡ false
-  pub some-total : eqb (totalOf (k .threshold) (k .settings .buckets) g) 0 ≡ false
+pub record Answered (kept : Record) (believed : Shape) (n : ℕ) (g : Histogram) : Type 0 where
+  pub record-whole : tornRecord kept ≡ false
+  pub buckets-long : bucketsTooShort (kept .settings) g ≡ false
+  pub shape-same : stale believed (kept .settings) ≡ false
+  pub on-curve : ltb (kept .settings .buckets) n ≡ false
+  pub report-whole : tornReport (kept .numbers .references) (kept .threshold) (kept .settings .buckets) g ≡ false
+  pub some-total : eqb (totalOf (kept .threshold) (kept .settings .buckets) g) 0 ≡ false
 
-module _ (k : Record) (believed : Shape) (n : ℕ) (g : Histogram) where
-  point-refused : (i : ℕ) → FirstAt i (pointOrder k believed n g) → pointOf k believed n g ≡ refused (refusalAt i (pointOrder k believed n g))
+module _ (kept : Record) (believed : Shape) (n : ℕ) (g : Histogram) where
+  point-refused : (i : ℕ) → FirstAt i (pointOrder kept believed n g) → pointOf kept believed n g ≡ refused (refusalAt i (pointOrder kept believed n g))
   unfolding pointOf
-  point-refused i f = says-refused i (pointOrder k believed n g) (curvePoint (profileOf (k .settings)) (k .threshold) n g) f
+  point-refused i f = says-refused i (pointOrder kept believed n g) (curvePoint (profileOf (kept .settings)) (kept .threshold) n g) f
 
-  pub point-torn : tornRecord k ≡ true → pointOf k believed n g ≡ refused 3
+  pub point-torn : tornRecord kept ≡ true → pointOf kept believed n g ≡ refused 3
   point-torn e = point-refused 0 e
 
-  module _ (e : tornRecord k ≡ false) where
-    pub point-short : bucketsTooShort (k .settings) g ≡ true → pointOf k believed n g ≡ refused 2
+  module _ (e : tornRecord kept ≡ false) where
+    pub point-short : bucketsTooShort (kept .settings) g ≡ true → pointOf kept believed n g ≡ refused 2
     point-short f = point-refused 1 (e, f)
 
-    module _ (f : bucketsTooShort (k .settings) g ≡ false) where
-      pub point-stale : stale believed (k .settings) ≡ true → pointOf k believed n g ≡ refused 5
+    module _ (f : bucketsTooShort (kept .settings) g ≡ false) where
+      pub point-stale : stale believed (kept .settings) ≡ true → pointOf kept believed n g ≡ refused 5
       point-stale h = point-refused 2 (e, (f, h))
 
-      module _ (h : stale believed (k .settings) ≡ false) where
-        pub point-number : ltb (k .settings .buckets) n ≡ true → pointOf k believed n g ≡ refused 6
+      module _ (h : stale believed (kept .settings) ≡ false) where
+        pub point-number : ltb (kept .settings .buckets) n ≡ true → pointOf kept believed n g ≡ refused 6
         point-number l = point-refused 3 (e, (f, (h, l)))
 
-        module _ (l : ltb (k .settings .buckets) n ≡ false) where
-          pub point-buckets : tornReport (k .numbers .references) (k .threshold) (k .settings .buckets) g ≡ true → pointOf k believed n g ≡ refused 3
+        module _ (l : ltb (kept .settings .buckets) n ≡ false) where
+          pub point-buckets : tornReport (kept .numbers .references) (kept .threshold) (kept .settings .buckets) g ≡ true → pointOf kept believed n g ≡ refused 3
           point-buckets t = point-refused 4 (e, (f, (h, (l, t))))
 
-          module _ (t : tornReport (k .numbers .references) (k .threshold) (k .settings .buckets) g ≡ false) where
-            pub point-empty : eqb (totalOf (k .threshold) (k .settings .buckets) g) 0 ≡ true → pointOf k believed n g ≡ refused 9
+          module _ (t : tornReport (kept .numbers .references) (kept .threshold) (kept .settings .buckets) g ≡ false) where
+            pub point-empty : eqb (totalOf (kept .threshold) (kept .settings .buckets) g) 0 ≡ true → pointOf kept believed n g ≡ refused 9
             point-empty z = point-refused 5 (e, (f, (h, (l, (t, z)))))
 
-  pub point-given : Answered k believed n g → pointOf k believed n g ≡ gives (curvePoint (profileOf (k .settings)) (k .threshold) n g)
+  pub point-given : Answered kept believed n g → pointOf kept believed n g ≡ gives (curvePoint (profileOf (kept .settings)) (kept .threshold) n g)
   unfolding pointOf
   point-given a = rw (a .record-whole, a .buckets-long, a .shape-same, a .on-curve, a .report-whole, a .some-total)
 
-  pub point-accepted : {p : Point} → pointOf k believed n g ≡ gives p → Answered k believed n g
+  pub point-accepted : {p : Point} → pointOf kept believed n g ≡ gives p → Answered kept believed n g
   unfolding pointOf
-  point-accepted e = let w = says-accepted (pointOrder k believed n g) (curvePoint (profileOf (k .settings)) (k .threshold) n g) e in
+  point-accepted e = let w = says-accepted (pointOrder kept believed n g) (curvePoint (profileOf (kept .settings)) (kept .threshold) n g) e in
       let v = w .1 .1 .1 in
       record { record-whole = w .0; buckets-long = w .1 .0; shape-same = w .1 .1 .0; on-curve = v .0; report-whole = v .1 .0; some-total = v .1 .1 .0 }
+
+-- ---- a point as a pair of doubles: the point's answer, with its value changed
+
+abbrev pub plotted : Result Point → Result PlotPoint
+plotted (refused n) = refused n
+plotted (gives p) = gives (plotPoint p)
+
+plotted-says : (order : List Judged) (p : Point) → plotted (says order p) ≡ says order (plotPoint p)
+plotted-says [] p = refl
+plotted-says (j ∷ order) p = cases (j .holds) (λ h. rw h) (λ h. rw h (plotted-says order p))
+
+pub plot-is : (kept : Record) (believed : Shape) (n : ℕ) (g : Histogram) → plotted (pointOf kept believed n g) ≡ plotOf kept believed n g
+unfolding pointOf plotOf
+plot-is kept believed n g = plotted-says (pointOrder kept believed n g) (curvePoint (profileOf (kept .settings)) (kept .threshold) n g)
 
 -- ---- what an accepted reference leaves
 
 -- where the tables say the list and the buckets stand, the step is read back
-pub sample-laid : (r : Stepped) (s : Held) → sampleOf (laid r s) ≡ r .left
-sample-laid r s = λ i. record { threshold = r .left .threshold; live = over-front (r .left .live) (s .tables .locations) i; histogram = r .left .histogram }
+pub sample-stored : (r : Stepped) (s : Tracker) → sampleOf (stored r s) ≡ r .left
+sample-stored r s = λ i. record { threshold = r .left .threshold; live = over-front (r .left .live) (s .tables .locations) i; histogram = r .left .histogram }
 
-settled-length : (hash : ℕ → ℕ) (limit t : ℕ) (l : List ℕ) (g : Histogram) → length l ≤ limit + 1 → length (settled hash limit t l g .live) ≤ limit
-unfolding settled
-settled-length hash limit t l g h = cases (ltb limit (length l))
+within-limit-length : (hash : ℕ → ℕ) (limit t : ℕ) (l : List ℕ) (g : Histogram) → length l ≤ limit + 1 → length (withinLimit hash limit t l g .live) ≤ limit
+unfolding withinLimit
+within-limit-length hash limit t l g h = cases (ltb limit (length l))
     (λ o. rw o (omega (arith, largest-leaves hash (lowered hash t l) l (omega (arith, ltb-true limit (length l) o)) (omega arith))))
     (λ o. rw o (ltb-false limit (length l) o))
 
--- never more than the limit are live, whatever the list held
+-- never more than the limit are live, whatever the list tracker
 pub step-live : (hash : ℕ → ℕ) (limit : ℕ) (f : Profile) (x : ℕ) (s : Sample) → length (s .live) ≤ limit → length (step hash limit f x s .left .live) ≤ limit
 step-live hash limit f x s h = cases (under hash (s .threshold) x)
     (λ e. cases (has x (s .live))
     (λ m. rw (step-again hash limit f x s e m) (omega (arith, length-erase x (s .live) m)))
-    (λ m. rw (step-first hash limit f x s e m) (settled-length hash limit (s .threshold) (x ∷ s .live) _ (omega arith))))
+    (λ m. rw (step-first hash limit f x s e m) (within-limit-length hash limit (s .threshold) (x ∷ s .live) _ (omega arith))))
     (λ e. rw (step-skipped hash limit f x s e) h)
 
 step-long : (hash : ℕ → ℕ) (limit : ℕ) (f : Profile) (x : ℕ) (s : Sample) (n : ℕ) → Long n (s .histogram) → Long n (step hash limit f x s .left .histogram)
 step-long hash limit f x s n l = cases (under hash (s .threshold) x)
     (λ e. cases (has x (s .live))
     (λ m. rw (step-again hash limit f x s e m) (long-record (s .threshold) _ (s .histogram) n l))
-    (λ m. rw (step-first hash limit f x s e m, settled-histogram hash limit (s .threshold) (x ∷ s .live)) (long-record (s .threshold) _ (s .histogram) n l)))
+    (λ m. rw (step-first hash limit f x s e m, within-limit-histogram hash limit (s .threshold) (x ∷ s .live)) (long-record (s .threshold) _ (s .histogram) n l)))
     (λ e. rw (step-skipped hash limit f x s e) l)
 
 counted-references : (r : Reply) (n : Numbers) → counted r n .references ≡ n .references + 1
@@ -215,30 +230,30 @@ counted-sampled skipped n h = omega arith
 counted-sampled first n h = omega arith
 counted-sampled (again d) n h = omega arith
 
-module _ (x : ℕ) (s : Held) (a : Accepted x s) where
-  abbrev k : Record
-  k = s .kept
+module _ (x : ℕ) (s : Tracker) (a : Accepted x s) where
+  abbrev kept : Record
+  kept = s .kept
 
-  record-bounds : Whole k
-  record-bounds = whole k (a .record-whole)
+  record-bounds : Whole kept
+  record-bounds = whole kept (a .record-whole)
 
-  tables-bounds : AllLong (k .settings) (s .tables)
-  tables-bounds = all-long (k .settings) (s .tables) (a .tables-long)
+  tables-bounds : AllLong (kept .settings) (s .tables)
+  tables-bounds = all-long (kept .settings) (s .tables) (a .tables-long)
 
-  pub live-left : length (stepOf x s .left .live) ≤ k .settings .limit
-  live-left = step-live (hashFor (k .settings)) (k .settings .limit) (profileOf (k .settings)) x (sampleOf s)
-      (omega (arith, length-take (k .live) (s .tables .locations), record-bounds .live-high))
+  pub live-left : length (stepOf x s .left .live) ≤ kept .settings .limit
+  live-left = step-live (hashFor (kept .settings)) (kept .settings .limit) (profileOf (kept .settings)) x (sampleOf s)
+      (omega (arith, length-take (kept .live) (s .tables .locations), record-bounds .live-high))
 
   -- the record left is not torn
-  pub left-whole : tornRecord (laid (stepOf x s) s .kept) ≡ false
-  left-whole = untorn (laid (stepOf x s) s .kept) (record-bounds .settings-whole) live-left
-      (omega (arith, step-falls (hashFor (k .settings)) (k .settings .limit) (profileOf (k .settings)) x (sampleOf s), record-bounds .threshold-high))
-      (omega (arith, counted-sampled (stepOf x s .reply) (k .numbers) (record-bounds .sampled-high), counted-references (stepOf x s .reply) (k .numbers)))
-      (omega (arith, counted-references (stepOf x s .reply) (k .numbers), record-bounds .references-high, eqb-false (k .numbers .references) mostReferences (a .room)))
+  pub left-whole : tornRecord (stored (stepOf x s) s .kept) ≡ false
+  left-whole = untorn (stored (stepOf x s) s .kept) (record-bounds .settings-whole) live-left
+      (omega (arith, step-falls (hashFor (kept .settings)) (kept .settings .limit) (profileOf (kept .settings)) x (sampleOf s), record-bounds .threshold-high))
+      (omega (arith, counted-sampled (stepOf x s .reply) (kept .numbers) (record-bounds .sampled-high), counted-references (stepOf x s .reply) (kept .numbers)))
+      (omega (arith, counted-references (stepOf x s .reply) (kept .numbers), record-bounds .references-high, eqb-false (kept .numbers .references) mostReferences (a .room)))
 
   -- nor are the tables left too short
-  pub left-long : tooShort (k .settings) (laid (stepOf x s) s .tables) ≡ false
-  left-long = none-short (k .settings) (laid (stepOf x s) s .tables) (record {
+  pub left-long : tooShort (kept .settings) (stored (stepOf x s) s .tables) ≡ false
+  left-long = none-short (kept .settings) (stored (stepOf x s) s .tables) (record {
     locations-long = rw (over-length (stepOf x s .left .live) (s .tables .locations) (omega (arith, live-left, tables-bounds .locations-long))) (tables-bounds .locations-long);
-    buckets = step-long (hashFor (k .settings)) (k .settings .limit) (profileOf (k .settings)) x (sampleOf s) (needed (k .settings .buckets)) (tables-bounds .buckets);
+    buckets = step-long (hashFor (kept .settings)) (kept .settings .limit) (profileOf (kept .settings)) x (sampleOf s) (needed (kept .settings .buckets)) (tables-bounds .buckets);
   })

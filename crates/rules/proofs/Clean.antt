@@ -10,12 +10,12 @@ use borrow.Author.Tests.{ltb-true, eqb-true, eqb-false}
 use Rattle.rules.specs.declared.Settings.{Settings}
 use Rattle.rules.specs.Lists.{has, upto}
 use Rattle.rules.specs.Settings.{Histogram, Tables, needed}
-use Rattle.rules.specs.Reference.{Sample, Profile, under, scaledDistance, rescaled, countAt, thresholdAt, recordIn, bucketFor, settled, step}
+use Rattle.rules.specs.Reference.{Sample, Profile, under, scaledDistance, rescaled, countAt, thresholdAt, recordIn, bucketFor, withinLimit, step}
 use Rattle.rules.specs.Curve.{rawTo}
 use Rattle.rules.specs.Layout.{freshTables}
 use Rattle.rules.proofs.Tests.{cases}
 use Rattle.rules.proofs.Buckets.{Long, long-record, rescaled-le, count-other, threshold-other, count-recorded, threshold-recorded, raw-recorded}
-use Rattle.rules.proofs.Steps.{step-skipped, step-again, step-first, settled-histogram}
+use Rattle.rules.proofs.Steps.{step-skipped, step-again, step-first, within-limit-histogram}
 use Rattle.rules.proofs.Fresh.{fresh-long, fresh-count, fresh-threshold, fresh-raw}
 
 -- the first n buckets, after so many references, under the threshold t
@@ -78,8 +78,8 @@ pub bucket-needed : (f : Profile) → ((d : ℕ) → f .bucketOf d ≤ f .bucket
 bucket-needed f far t (some d) = omega (arith, far (scaledDistance t d))
 bucket-needed f far t none = omega arith
 
-settled-low : (hash : ℕ → ℕ) (limit t : ℕ) (l : List ℕ) (g : Histogram) → settled hash limit t l g .threshold ≤ t
-unfolding settled
+settled-low : (hash : ℕ → ℕ) (limit t : ℕ) (l : List ℕ) (g : Histogram) → withinLimit hash limit t l g .threshold ≤ t
+unfolding withinLimit
 settled-low hash limit t l g = cases (ltb limit (length l)) (λ o. rw o (omega arith)) (λ o. rw o (omega arith))
 
 -- the threshold never rises
@@ -99,6 +99,6 @@ module _ (hash : ℕ → ℕ) (limit : ℕ) (f : Profile) (far : (d : ℕ) → f
       cases (has x (s .live))
       (λ m. rw (step-again hash limit f x s e m)
       (clean-record (needed (f .buckets)) start references (s .threshold) (s .histogram) c p o _ (bucket-needed f far (s .threshold) (some (length (upto x (s .live))))) (s .threshold) (omega arith)))
-      (λ m. rw (step-first hash limit f x s e m, settled-histogram hash limit (s .threshold) (x ∷ s .live))
+      (λ m. rw (step-first hash limit f x s e m, within-limit-histogram hash limit (s .threshold) (x ∷ s .live))
       (clean-record (needed (f .buckets)) start references (s .threshold) (s .histogram) c p o _ (bucket-needed f far (s .threshold) none) _ (settled-low hash limit (s .threshold) (x ∷ s .live) _))))
       (λ e. rw (step-skipped hash limit f x s e) (clean-later (needed (f .buckets)) start references (s .threshold) (s .histogram) c (s .threshold) (omega arith)))

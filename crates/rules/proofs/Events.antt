@@ -15,18 +15,19 @@ use Rattle.rules.specs.declared.Reading.{Reading}
 use Rattle.rules.specs.declared.Reading.the-variants as reading
 use Rattle.rules.specs.declared.Written.the-variants as written
 use Rattle.rules.specs.Lists.{over}
-use Rattle.rules.specs.Answers.{Said, refused, gives, Got, saidReading}
-use Rattle.rules.specs.Events.{numberAt, eventBytes, eventLength, bodyOf, unknown, wholeLength, eventOf, readOf, whole, writeOf, afterWritten}
+use Rattle.rules.specs.Answers.{Result, refused, gives, Got, readingResult, writtenResult}
+use Rattle.rules.specs.Order.{outcome}
+use Rattle.rules.specs.Events.{numberAt, eventBytes, eventLength, setupBodyOf, unknown, wholeLength, eventOf, readOf, whole, writeOf}
 use Rattle.rules.proofs.Tests.{cases, neither}
 use Rattle.rules.proofs.Order.{not-both}
 
 -- ---- which case of reading it is
 
-abbrev pub got : Event → ℕ → Said Got
+abbrev pub got : Event → ℕ → Result Got
 got e n = gives (record { event = e; taken = n })
 
 -- the rule of reading, with k for the first byte
-abbrev pub ofKind : (k : ℕ) → List ℕ → Said Got
+abbrev pub ofKind : (k : ℕ) → List ℕ → Result Got
 ofKind k s = cond (unknown k) (refused 8) (whole (wholeLength k) (eventOf k s) s)
 
 -- a first byte is one of the four kinds, or none is
@@ -64,7 +65,7 @@ module _ (n : ℕ) (s : List ℕ) where
 -- ---- what holds of any reading
 
 -- to show P of a reading, show it of refusals, and of each kind of event where all its bytes are there
-module _ (P : Said Got → Type 0) (s : List ℕ) (none : (n : ℕ) → P (refused n)) where
+module _ (P : Result Got → Type 0) (s : List ℕ) (none : (n : ℕ) → P (refused n)) where
   by-whole : (n : ℕ) (e : Event) → readOf s ≡ whole n e s → (n ≤ length s → P (got e n)) → P (readOf s)
   by-whole n e is f = cases (ltb (length s) n)
       (λ h. rw (is, h) (none 7))
@@ -74,7 +75,7 @@ module _ (P : Said Got → Type 0) (s : List ℕ) (none : (n : ℕ) → P (refus
       (getD s 0 0 ≡ 1 → 9 ≤ length s → P (got (Location (numberAt 8 1 s)) 9))
       → (getD s 0 0 ≡ 2 → 13 ≤ length s → P (got (Span (numberAt 8 1 s) (numberAt 4 9 s)) 13))
       → (getD s 0 0 ≡ 3 → 1 ≤ length s → P (got Restart 1))
-      → (getD s 0 0 ≡ 4 → 18 ≤ length s → P (got (Setup (bodyOf s)) 18))
+      → (getD s 0 0 ≡ 4 → 18 ≤ length s → P (got (Setup (setupBodyOf s)) 18))
       → P (readOf s)
   by-reading location span restart setup = cases (eqb (length s) 0)
       (λ z. rw (read-empty s (eqb-true _ _ z)) (none 7))
@@ -86,7 +87,7 @@ module _ (P : Said Got → Type 0) (s : List ℕ) (none : (n : ℕ) → P (refus
       (λ u. rw (read-kind (getD s 0 0) s any refl, u) (none 8)))
 
 -- what is taken is something, and lies within the bytes
-abbrev Within : List ℕ → Said Got → Type 0
+abbrev Within : List ℕ → Result Got → Type 0
 Within s (refused n) = Unit {0}
 Within s (gives g) = (0 < g .taken) × (g .taken ≤ length s)
 
@@ -94,32 +95,32 @@ pub taken : (s : List ℕ) {g : Got} → readOf s ≡ gives g → (0 < g .taken)
 taken s h = rw h at (by-reading (Within s) s (λ n. tt) (λ k l. omega arith) (λ k l. omega arith) (λ k l. omega arith) (λ k l. omega arith))
 
 -- the same of an answer, for a caller's loop
-pub got-taken : (s : List ℕ) {r : Reading} {e : Event} {n : ℕ} → saidReading r ≡ readOf s → r ≡ reading.Got e n → (0 < n) × (n ≤ length s)
-got-taken s said is = taken s (sym said ∙ ap saidReading is)
+pub got-taken : (s : List ℕ) {r : Reading} {e : Event} {n : ℕ} → readingResult r ≡ readOf s → r ≡ reading.Got e n → (0 < n) × (n ≤ length s)
+got-taken s said is = taken s (sym said ∙ ap readingResult is)
 
 -- ---- writing
 
 module _ (e : Event) (buffer : List ℕ) where
-  pub write-short : length buffer < eventLength e → writeOf e buffer ≡ record { said = refused 2; buffer = buffer }
+  pub write-short : length buffer < eventLength e → writeOf e buffer ≡ record { result = refused 2; left = buffer }
   unfolding writeOf
   write-short h = simp (lt-ltb _ _ h)
 
-  pub write-fits : eventLength e ≤ length buffer → writeOf e buffer ≡ record { said = gives (eventLength e); buffer = over (eventBytes e) buffer }
+  pub write-fits : eventLength e ≤ length buffer → writeOf e buffer ≡ record { result = gives (eventLength e); left = over (eventBytes e) buffer }
   unfolding writeOf
   write-fits h = simp (le-ltb _ _ h)
 
   -- the event's bytes, put one by one from the front
-  pub write-puts : eventLength e ≤ length buffer → writeOf e buffer ≡ record { said = gives (eventLength e); buffer = sets buffer 0 (eventBytes e) }
+  pub write-puts : eventLength e ≤ length buffer → writeOf e buffer ≡ record { result = gives (eventLength e); left = sets buffer 0 (eventBytes e) }
   write-puts h =
       let puts : sets buffer 0 (eventBytes e) ≡ over (eventBytes e) buffer = sets-eq (eventBytes e) buffer 0 (omega arith) ∙ simp zero-add in
       rw puts (write-fits h)
 
   -- and a buffer in which they are put, with their number answered, is what writing leaves
-  pub write-done : {n : ℕ} {after : List ℕ} → n ≡ eventLength e → n ≤ length buffer → after ≡ sets buffer 0 (eventBytes e) → afterWritten (written.Filled n) after ≡ writeOf e buffer
+  pub write-done : {n : ℕ} {after : List ℕ} → n ≡ eventLength e → n ≤ length buffer → after ≡ sets buffer 0 (eventBytes e) → outcome (writtenResult (written.Filled n)) after ≡ writeOf e buffer
   write-done size fits put = rw (size, put) (sym (write-puts (rw size at fits)))
 
   -- where something was filled it is the event, over the front of the buffer
-  pub write-filled : (n : ℕ) (after : List ℕ) → afterWritten (written.Filled n) after ≡ writeOf e buffer → (n ≡ eventLength e) × (after ≡ over (eventBytes e) buffer)
+  pub write-filled : (n : ℕ) (after : List ℕ) → outcome (writtenResult (written.Filled n)) after ≡ writeOf e buffer → (n ≡ eventLength e) × (after ≡ over (eventBytes e) buffer)
   write-filled n after w = cases (ltb (length buffer) (eventLength e))
-      (λ h. absurd (not-both (ap (λ z. z .said) (w ∙ write-short (ltb-true _ _ h))) refl))
-      (λ h. let k = w ∙ write-fits (ltb-false _ _ h) in ((let q = ap (λ z. z .said) k in cc), ap (λ z. z .buffer) k))
+      (λ h. absurd (not-both (ap (λ z. z .result) (w ∙ write-short (ltb-true _ _ h))) refl))
+      (λ h. let k = w ∙ write-fits (ltb-false _ _ h) in ((let q = ap (λ z. z .result) k in cc), ap (λ z. z .left) k))

@@ -6,7 +6,7 @@ use native.Mathlib.Omega.{arith}
 use lib.ListN.{length, getD, replicate, length-replicate, getD-replicate, List·getD-append}
 use Rattle.rules.specs.declared.Settings.{Settings}
 use Rattle.rules.specs.Lists.{over}
-use Rattle.rules.specs.Settings.{P, Histogram, Tables, needed}
+use Rattle.rules.specs.Settings.{Histogram, Tables, needed, fullRate}
 use Rattle.rules.specs.Reference.{countAt, thresholdAt}
 use Rattle.rules.specs.Curve.{rawTo}
 use Rattle.rules.specs.Layout.{profileOf, freshTables}
@@ -42,7 +42,7 @@ module _ (s : Settings) (t : Tables) (l : Long (needed (s .buckets)) (t .histogr
   fresh-raw (suc n) h = omega (arith, fresh-raw n (omega arith), fresh-count n h)
 
   -- at full rate no reference was made yet, and none hit
-  pub exact-fresh : s .start ≡ P → Exact (profileOf s) (λ n. 0) 0 g
+  pub exact-fresh : s .start ≡ fullRate → Exact (profileOf s) (λ n. 0) 0 g
   exact-fresh p = record {
     long = fresh-long;
     flat = λ j h. fresh-threshold j h ∙ p;

@@ -10,7 +10,7 @@ use lib.ListN.{length, getD, take, drop, length-take}
 use lib.Seq.{getD-take, take-append-le, take-nil, take-take}
 use borrow.Author.Tests.{le-ltb, ltb-true}
 use Rattle.rules.specs.declared.Event.{Event}
-use Rattle.rules.specs.Answers.{Said, refused, gives, Got}
+use Rattle.rules.specs.Answers.{Result, refused, gives, Got}
 use Rattle.rules.specs.Events.{numberAt, whole, readOf}
 use Rattle.rules.proofs.Tests.{cases}
 use Rattle.rules.proofs.Order.{not-both}
@@ -45,7 +45,7 @@ module _ (s t : List ℕ) where
     all-there : ltb (length t) m ≡ false
     all-there = le-ltb _ _ there
 
-  abbrev Same : Said Got → Type 0
+  abbrev Same : Result Got → Type 0
   Same (refused n) = Unit {0}
   Same (gives g) = take (g .taken) s ≡ take (g .taken) t → readOf t ≡ gives g
 

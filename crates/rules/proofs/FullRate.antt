@@ -10,7 +10,7 @@ use lib.ListN.{length}
 use lib.Dec.{eqb, ltb, leb, lit<}
 use borrow.Author.Tests.{lt-ltb, le-ltb, ltb-true, ltb-false, eqb-true, eqb-false, leb-true, leb-false}
 use Rattle.rules.specs.Lists.{keep, has, upto}
-use Rattle.rules.specs.Settings.{P, Histogram, needed}
+use Rattle.rules.specs.Settings.{Histogram, needed, fullRate}
 use Rattle.rules.specs.Reference.{Sample, Profile, widths, under, scaledDistance, rescaled, countAt, thresholdAt, recordIn, bucketFor, step}
 use Rattle.rules.specs.Curve.{sumTo, rawTo}
 use Rattle.rules.specs.History.{recency, different, Largest}
@@ -20,7 +20,7 @@ use Rattle.rules.proofs.Lists.{keep-all}
 use Rattle.rules.proofs.History.{has-recency, upto-recency}
 use Rattle.rules.proofs.Cache.{hit-is}
 use Rattle.rules.proofs.Buckets.{Long, long-record, raw-before, raw-recorded, threshold-other, threshold-recorded}
-use Rattle.rules.proofs.Steps.{Tracked, step-again, step-first, settled-histogram}
+use Rattle.rules.proofs.Steps.{Tracked, step-again, step-first, within-limit-histogram}
 
 -- a profile whose buckets are cut at the sizes of its points
 pub record Cut (f : Profile) : Type 0 where
@@ -49,57 +49,57 @@ widths-cut width buckets pos = record {
 -- what a histogram holds at full rate: of `references` references, `hit n` found their block in a cache of n blocks
 pub record Exact (f : Profile) (hit : ℕ → ℕ) (references : ℕ) (g : Histogram) : Type 0 where
   pub long : Long (needed (f .buckets)) g
-  pub flat : (j : ℕ) → j < needed (f .buckets) → thresholdAt j g ≡ P
+  pub flat : (j : ℕ) → j < needed (f .buckets) → thresholdAt j g ≡ fullRate
   pub below : (k : ℕ) → k ≤ f .buckets → rawTo k g ≡ 256 * hit (f .size k)
   pub total : rawTo (needed (f .buckets)) g ≡ 256 * references
 
--- a report under P then sums the raw counts
-pub exact-report : (f : Profile) (hit : ℕ → ℕ) (m : ℕ) (g : Histogram) → Exact f hit m g → (n : ℕ) → n ≤ needed (f .buckets) → sumTo P n g ≡ rawTo n g
+-- a report under fullRate then sums the raw counts
+pub exact-report : (f : Profile) (hit : ℕ → ℕ) (m : ℕ) (g : Histogram) → Exact f hit m g → (n : ℕ) → n ≤ needed (f .buckets) → sumTo fullRate n g ≡ rawTo n g
 unfolding sumTo rawTo
 exact-report f hit m g e zero l = refl
 exact-report f hit m g e (suc n) l =
     ap₂ (λ a b. a + b) (exact-report f hit m g e n (omega arith))
-    (ap (rescaled P (countAt n g)) (e .flat n l) ∙ mul-div-cancel (countAt n g) {n = P} (lit< tt))
+    (ap (rescaled fullRate (countAt n g)) (e .flat n l) ∙ mul-div-cancel (countAt n g) {n = fullRate} (lit< tt))
 
 module _ (f : Profile) (hit : ℕ → ℕ) (m : ℕ) (g : Histogram) (e : Exact f hit m g) (j : ℕ) (b : j < needed (f .buckets)) where
-  raw-more : (n : ℕ) → rawTo n (recordIn P j g) ≡ 256 * oneIf (ltb j n) + rawTo n g
+  raw-more : (n : ℕ) → rawTo n (recordIn fullRate j g) ≡ 256 * oneIf (ltb j n) + rawTo n g
   raw-more n =
       let c : j < length (g .counts) = omega (arith, e .long .counts-long) in
-      let q : rescaled P (countAt j g) (thresholdAt j g) ≡ countAt j g = ap (rescaled P (countAt j g)) (e .flat j b) ∙ mul-div-cancel (countAt j g) {n = P} (lit< tt) in
+      let q : rescaled fullRate (countAt j g) (thresholdAt j g) ≡ countAt j g = ap (rescaled fullRate (countAt j g)) (e .flat j b) ∙ mul-div-cancel (countAt j g) {n = fullRate} (lit< tt) in
       cases (ltb j n)
-      (λ l. rw l (omega (arith, raw-recorded P j g c n (ltb-true j n l))))
-      (λ l. rw l (omega (arith, raw-before P j g n (ltb-false j n l))))
+      (λ l. rw l (omega (arith, raw-recorded fullRate j g c n (ltb-true j n l))))
+      (λ l. rw l (omega (arith, raw-before fullRate j g n (ltb-false j n l))))
 
   -- one more reference, into bucket j: the buckets below k are where the caches of size k hit
-  pub exact-record : (now : ℕ → Bool) → ((k : ℕ) → k ≤ f .buckets → now (f .size k) ≡ ltb j k) → Exact f (λ n. oneIf (now n) + hit n) (suc m) (recordIn P j g)
+  pub exact-record : (now : ℕ → Bool) → ((k : ℕ) → k ≤ f .buckets → now (f .size k) ≡ ltb j k) → Exact f (λ n. oneIf (now n) + hit n) (suc m) (recordIn fullRate j g)
   exact-record now q = record {
-    long = long-record P j g (needed (f .buckets)) (e .long);
+    long = long-record fullRate j g (needed (f .buckets)) (e .long);
     flat = λ i l. cases (eqb i j)
-        (λ d. let s : i ≡ j = eqb-true i j d in rw s (threshold-recorded P j g (omega (arith, e .long .thresholds-long))))
-        (λ d. threshold-other P j g i (eqb-false i j d) ∙ e .flat i l);
+        (λ d. let s : i ≡ j = eqb-true i j d in rw s (threshold-recorded fullRate j g (omega (arith, e .long .thresholds-long))))
+        (λ d. threshold-other fullRate j g i (eqb-false i j d) ∙ e .flat i l);
     below = λ k l. rw (q k l) (omega (arith, raw-more k, e .below k l));
     total = omega (arith, raw-more (needed (f .buckets)), ap (λ z. 256 * oneIf z) (lt-ltb j (needed (f .buckets)) b), e .total);
   }
 
-module _ (hash : ℕ → ℕ) (all : (y : ℕ) → hash y < P) where
-  pub under-all : (y : ℕ) → under hash P y ≡ true
-  under-all y = lt-ltb (hash y) P (all y)
+module _ (hash : ℕ → ℕ) (all : (y : ℕ) → hash y < fullRate) where
+  pub under-all : (y : ℕ) → under hash fullRate y ≡ true
+  under-all y = lt-ltb (hash y) fullRate (all y)
 
-  pub different-all : (past : List ℕ) → different (under hash P) past ≡ length (recency past)
-  different-all past = ap length (keep-all (under hash P) under-all (recency past))
+  pub different-all : (past : List ℕ) → different (under hash fullRate) past ≡ length (recency past)
+  different-all past = ap length (keep-all (under hash fullRate) under-all (recency past))
 
-  -- with the limit not exceeded the threshold is still P
-  pub threshold-stays : (limit : ℕ) (past : List ℕ) (t : ℕ) → Largest hash limit P past t → length (recency past) ≤ limit → t ≡ P
-  threshold-stays limit past t g n = cases (ltb t P)
-      (λ e. absurd (omega (arith, g .none-above P (ltb-true t P e) (omega arith), different-all past)))
-      (λ e. omega (arith, ltb-false t P e, g .atMost))
+  -- with the limit not exceeded the threshold is still fullRate
+  pub threshold-stays : (limit : ℕ) (past : List ℕ) (t : ℕ) → Largest hash limit fullRate past t → length (recency past) ≤ limit → t ≡ fullRate
+  threshold-stays limit past t g n = cases (ltb t fullRate)
+      (λ e. absurd (omega (arith, g .none-above fullRate (ltb-true t fullRate e) (omega arith), different-all past)))
+      (λ e. omega (arith, ltb-false t fullRate e, g .atMost))
 
-  module _ (limit : ℕ) (f : Profile) (c : Cut f) (x : ℕ) (past : List ℕ) (s : Sample) (k : Tracked hash limit P past s) (n : length (recency past) ≤ limit) where
-    still : s .threshold ≡ P
+  module _ (limit : ℕ) (f : Profile) (c : Cut f) (x : ℕ) (past : List ℕ) (s : Sample) (k : Tracked hash limit fullRate past s) (n : length (recency past) ≤ limit) where
+    still : s .threshold ≡ fullRate
     still = threshold-stays limit past (s .threshold) (k .threshold-is) n
 
     live-all : s .live ≡ recency past
-    live-all = k .live-is ∙ ap (λ t. keep (under hash t) (recency past)) still ∙ keep-all (under hash P) under-all (recency past)
+    live-all = k .live-is ∙ ap (λ t. keep (under hash t) (recency past)) still ∙ keep-all (under hash fullRate) under-all (recency past)
 
     sampled-here : under hash (s .threshold) x ≡ true
     sampled-here = ap (λ t. under hash t x) still ∙ under-all x
@@ -111,11 +111,11 @@ module _ (hash : ℕ → ℕ) (all : (y : ℕ) → hash y < P) where
         let d : ℕ = length (recency (upto x past)) in
         let q : length (upto x (s .live)) ≡ d = ap (λ l. length (upto x l)) live-all ∙ ap length (upto-recency x past) in
         let j : bucketFor f (s .threshold) (some (length (upto x (s .live)))) ≡ f .bucketOf d =
-        (λ i. f .bucketOf (scaledDistance (still i) (q i))) ∙ ap (f .bucketOf) (mul-div-cancel d {n = P} (lit< tt)) in
+        (λ i. f .bucketOf (scaledDistance (still i) (q i))) ∙ ap (f .bucketOf) (mul-div-cancel d {n = fullRate} (lit< tt)) in
         rw (step-again hash limit f x s sampled-here (ap (has x) live-all ∙ has-recency x past ∙ w), j, still)
         (exact-record f (λ n. hits n past) m (s .histogram) e (f .bucketOf d) (omega (arith, c .far d)) (λ n. has x (cached n past))
         (λ k l. hit-is (f .size k) x past ∙ rw w (sym (c .cut d k l)))))
         (λ w.
-        rw (step-first hash limit f x s sampled-here (ap (has x) live-all ∙ has-recency x past ∙ w), settled-histogram hash limit (s .threshold) (x ∷ s .live), still)
+        rw (step-first hash limit f x s sampled-here (ap (has x) live-all ∙ has-recency x past ∙ w), within-limit-histogram hash limit (s .threshold) (x ∷ s .live), still)
         (exact-record f (λ n. hits n past) m (s .histogram) e (f .buckets + 1) (omega arith) (λ n. has x (cached n past))
         (λ k l. hit-is (f .size k) x past ∙ rw w (sym (le-ltb (f .buckets + 1) k (omega arith))))))

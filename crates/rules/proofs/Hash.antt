@@ -5,11 +5,11 @@ use native.Mathlib.Nat.{mod-lt}
 use lib.Dec.{eqb}
 use lib.Pow.{pow-pos}
 use Rattle.rules.specs.declared.Hashing.{Hashing}
-use Rattle.rules.specs.Settings.{P, shiftStep, finaliser, hashOf}
+use Rattle.rules.specs.Settings.{shiftStep, finaliser, hashOf, fullRate}
 use Rattle.rules.proofs.Tests.{cases}
 
--- every hash is below P
-pub hash-below : (how : Hashing) (location : ℕ) → hashOf how location < P
+-- every hash is below fullRate
+pub hash-below : (how : Hashing) (location : ℕ) → hashOf how location < fullRate
 unfolding hashOf
 hash-below how location = cases (eqb (how .kind) 0)
     (λ e. rw e (mod-lt location (pow-pos 24)))

@@ -3,13 +3,13 @@ use Prim.Native.Nat.{ℕ, zero, suc}
 use mathlib.Core.Path.{_≡_, refl, subst}
 use mathlib.Core.List.{List, [], _∷_}
 use native.Mathlib.Omega.{arith}
-use Rattle.rules.specs.Answers.{Said, refused, gives}
+use Rattle.rules.specs.Answers.{Result, refused, gives}
 use Rattle.rules.specs.Order.{Judged, says, leaves, NoneHolds, FirstAt, refusalAt}
 use Rattle.rules.proofs.Tests.{cases}
 use Rattle.rules.proofs.Answers.{number-some}
 
 -- nothing is both refused and accepted
-pub not-both : {A : Type 0} {said : Said A} {n : ℕ} {a : A} → said ≡ refused n → said ≡ gives a → ⊥
+pub not-both : {A : Type 0} {said : Result A} {n : ℕ} {a : A} → said ≡ refused n → said ≡ gives a → ⊥
 not-both e f = let z : _≡_ {A = ℕ} 0 1 = cc in omega arith
 
 -- either no condition holds, or one is the first that does

@@ -7,8 +7,8 @@ use native.Mathlib.Nat.{eq-or-lt-of-le}
 use native.Mathlib.Omega.{arith}
 use borrow.Author.Tests.{ltb-false}
 use Rattle.rules.specs.Settings.{Histogram, needed}
-use Rattle.rules.specs.Curve.{sumTo, rawTo, totalOf}
 use Rattle.rules.specs.Reference.{countAt, thresholdAt}
+use Rattle.rules.specs.Curve.{sumTo, rawTo, totalOf}
 use Rattle.rules.specs.Conditions.{anyTorn, tornTo, tornReport}
 use Rattle.rules.proofs.Tests.{neither}
 use Rattle.rules.proofs.Bounds.{sound, sound-rescaled}

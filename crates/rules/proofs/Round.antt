@@ -13,8 +13,9 @@ use Rattle.rules.specs.declared.Event.the-variants.{Location, Span, Rest
 use Rattle.rules.specs.declared.Reading.{Reading}
 use Rattle.rules.specs.declared.Reading.the-variants as reading
 use Rattle.rules.specs.declared.Written.the-variants as written
-use Rattle.rules.specs.Answers.{Said, refused, gives, Got, saidReading}
-use Rattle.rules.specs.Events.{bytesOf, numberAt, eventBytes, eventLength, readOf, unreadOf, writeOf, afterWritten, Fits, Bytes}
+use Rattle.rules.specs.Answers.{Result, refused, gives, Got, readingResult, writtenResult}
+use Rattle.rules.specs.Order.{outcome}
+use Rattle.rules.specs.Events.{bytesOf, numberAt, eventBytes, eventLength, readOf, unreadOf, writeOf, Fits, Bytes}
 use Rattle.rules.proofs.Answers.{reading-injective}
 use Rattle.rules.proofs.LittleEndian.{number-bytes, number-below, bytes-number}
 use Rattle.rules.proofs.Events.{got, read-kind, by-reading, write-filled}
@@ -49,8 +50,8 @@ pub round-unread : (e : Event) (rest : List ℕ) → Fits e → unreadOf (eventB
 round-unread e rest f = rw (round e rest f) (drop-append-seam (eventBytes e) rest)
 
 -- by the promises alone: where `write` filled n bytes of a buffer, `read` of that buffer answers the event with n
-module _ (e : Event) (n : ℕ) (before after : List ℕ) (f : Fits e) (w : afterWritten (written.Filled n) after ≡ writeOf e before) where
-  pub written-read : (q : Reading) → saidReading q ≡ readOf after → q ≡ reading.Got e n
+module _ (e : Event) (n : ℕ) (before after : List ℕ) (f : Fits e) (w : outcome (writtenResult (written.Filled n)) after ≡ writeOf e before) where
+  pub written-read : (q : Reading) → readingResult q ≡ readOf after → q ≡ reading.Got e n
   written-read q r =
       let k = write-filled e before n after w in
       reading-injective q (reading.Got e n) (r ∙ rw (k .1, k .0) (round e (drop (eventLength e) before) f))
@@ -64,7 +65,7 @@ module _ (e : Event) (n : ℕ) (before after : List ℕ) (f : Fits e) (w : after
 -- ---- the other way round
 
 -- an event that was read fits its types, and its bytes are those that were read
-abbrev Back : List ℕ → Said Got → Type 0
+abbrev Back : List ℕ → Result Got → Type 0
 Back s (refused n) = Unit {0}
 Back s (gives g) = Fits (g .event) × (eventBytes (g .event) ++ drop (g .taken) s ≡ s)
 

@@ -10,7 +10,7 @@ use lib.Dec.{ltb}
 use borrow.Author.Tests.{ltb-true, ltb-false, lt-ltb, le-ltb}
 use Rattle.rules.specs.Lists.{keep, has, upto, erase, without}
 use Rattle.rules.specs.Settings.{Histogram}
-use Rattle.rules.specs.Reference.{Sample, Profile, firstPlace, under, largest, keepBelow, lowered, recordIn, bucketFor, settled, skipped, first, again, sampled, step}
+use Rattle.rules.specs.Reference.{Sample, Profile, firstPlace, under, largest, keepBelow, lowered, recordIn, bucketFor, withinLimit, skipped, first, again, sampledStep, step}
 use Rattle.rules.specs.History.{recency, different, distance, Largest}
 use Rattle.rules.proofs.Tests.{cases}
 use Rattle.rules.proofs.Lists.{keep-keep, keep-length, keep-narrow, without-out, has-keep, Once, once-keep, erase-without, length-erase, upto-keep}
@@ -25,7 +25,7 @@ module _ (hash : ℕ → ℕ) (limit : ℕ) (f : Profile) (x : ℕ) (s : Sample)
   step-skipped e = rw e
 
   module _ (e : under hash (s .threshold) x ≡ true) where
-    pub step-sampled : step hash limit f x s ≡ sampled hash limit f x s (firstPlace x (s .live))
+    pub step-sampled : step hash limit f x s ≡ sampledStep hash limit f x s (firstPlace x (s .live))
     unfolding step
     step-sampled = rw e
 
@@ -37,20 +37,20 @@ module _ (hash : ℕ → ℕ) (limit : ℕ) (f : Profile) (x : ℕ) (s : Sample)
         histogram = recordIn (s .threshold) (bucketFor f (s .threshold) (some (length (upto x (s .live))))) (s .histogram);
       };
     }
-    unfolding sampled
+    unfolding sampledStep
     step-again m = step-sampled ∙ rw (place-in x (s .live) m, front-erase x (s .live) m)
 
     pub step-first : has x (s .live) ≡ false → step hash limit f x s ≡ record {
       reply = first;
-      left = settled hash limit (s .threshold) (x ∷ s .live) (recordIn (s .threshold) (bucketFor f (s .threshold) none) (s .histogram));
+      left = withinLimit hash limit (s .threshold) (x ∷ s .live) (recordIn (s .threshold) (bucketFor f (s .threshold) none) (s .histogram));
     }
-    unfolding sampled
+    unfolding sampledStep
     step-first m = step-sampled ∙ rw (place-out x (s .live) m)
 
 -- a lowering changes no bucket
-pub settled-histogram : (hash : ℕ → ℕ) (limit t : ℕ) (l : List ℕ) (g : Histogram) → settled hash limit t l g .histogram ≡ g
-unfolding settled
-settled-histogram hash limit t l g = cases (ltb limit (length l)) (λ o. rw o) (λ o. rw o)
+pub within-limit-histogram : (hash : ℕ → ℕ) (limit t : ℕ) (l : List ℕ) (g : Histogram) → withinLimit hash limit t l g .histogram ≡ g
+unfolding withinLimit
+within-limit-histogram hash limit t l g = cases (ltb limit (length l)) (λ o. rw o) (λ o. rw o)
 
 -- ---- a lowering
 
@@ -158,8 +158,8 @@ module _ (hash : ℕ → ℕ) (limit start : ℕ) (x : ℕ) (past : List ℕ) wh
             live-is = unfold low in low-list hash limit t (recency (x ∷ past));
           }
 
-      tracked-first : has x (s .live) ≡ false → Tracked hash limit start (x ∷ past) (settled hash limit t (x ∷ s .live) g)
-      unfolding settled
+      tracked-first : has x (s .live) ≡ false → Tracked hash limit start (x ∷ past) (withinLimit hash limit t (x ∷ s .live) g)
+      unfolding withinLimit
       tracked-first m =
           let q : x ∷ s .live ≡ keepBelow hash t (recency (x ∷ past)) = ap (λ r. x ∷ r) (sym (without-out x (s .live) m)) ∙ live-in t e (s .live) (k .live-is) in
           cases (ltb limit (length (x ∷ s .live)))

@@ -26,12 +26,13 @@ use Rattle.rules.specs.declared.Found.{Found}
 use Rattle.rules.specs.declared.Found.the-variants as found
 use Rattle.rules.specs.declared.Reported.{Reported}
 use Rattle.rules.specs.declared.Reported.the-variants as reported
+use Rattle.rules.specs.Settings.{Tables}
 use Rattle.rules.specs.Reference.{Reply, skipped, first, again}
 
 -- what a call says: a refusal, by its number, or what the call is for
-pub data Said (A : Type 0) : Type 0 where
-  refused : ℕ → Said A
-  gives : A → Said A
+pub data Result (A : Type 0) : Type 0 where
+  refused : ℕ → Result A
+  gives : A → Result A
 
 abbrev pub number : Refusal → ℕ
 number refusal.Settings = 1
@@ -45,7 +46,7 @@ number refusal.Kind = 8
 number refusal.Empty = 9
 
 -- 0 where a call is accepted, or the refusal's number
-abbrev pub numberOf : {A : Type 0} → Said A → ℕ
+abbrev pub numberOf : {A : Type 0} → Result A → ℕ
 numberOf (refused n) = n
 numberOf (gives a) = 0
 
@@ -54,39 +55,39 @@ pub record Got : Type 0 where
   pub event : Event
   pub taken : ℕ
 
-abbrev pub saidStarted : Started → Said Record
-saidStarted (started.Ready k) = gives k
-saidStarted (started.Refused r) = refused (number r)
+abbrev pub startedResult : Started → Result Record
+startedResult (started.Ready kept) = gives kept
+startedResult (started.Refused r) = refused (number r)
 
-abbrev pub saidAnswer : Answer → Said Reply
-saidAnswer answer.Skipped = gives skipped
-saidAnswer (answer.Again d) = gives (again d)
-saidAnswer answer.First = gives first
-saidAnswer (answer.Refused r) = refused (number r)
+abbrev pub replyResult : Answer → Result Reply
+replyResult answer.Skipped = gives skipped
+replyResult (answer.Again d) = gives (again d)
+replyResult answer.First = gives first
+replyResult (answer.Refused r) = refused (number r)
 
-abbrev pub saidPointed : Pointed → Said Point
-saidPointed (pointed.At p) = gives p
-saidPointed (pointed.Refused r) = refused (number r)
+abbrev pub pointResult : Pointed → Result Point
+pointResult (pointed.At p) = gives p
+pointResult (pointed.Refused r) = refused (number r)
 
-abbrev pub saidPlotted : Plotted → Said PlotPoint
-saidPlotted (plotted.At p) = gives p
-saidPlotted (plotted.Refused r) = refused (number r)
+abbrev pub plotResult : Plotted → Result PlotPoint
+plotResult (plotted.At p) = gives p
+plotResult (plotted.Refused r) = refused (number r)
 
-abbrev pub saidTaken : Taken → Said (Unit {0})
-saidTaken taken.Whole = gives tt
-saidTaken (taken.Refused r) = refused (number r)
+abbrev pub takenResult : Taken → Result (Unit {0})
+takenResult taken.Whole = gives tt
+takenResult (taken.Refused r) = refused (number r)
 
-abbrev pub saidReading : Reading → Said Got
-saidReading (reading.Got e n) = gives (record { event = e; taken = n })
-saidReading (reading.Refused r) = refused (number r)
+abbrev pub readingResult : Reading → Result Got
+readingResult (reading.Got e n) = gives (record { event = e; taken = n })
+readingResult (reading.Refused r) = refused (number r)
 
-abbrev pub saidWritten : Written → Said ℕ
-saidWritten (written.Filled n) = gives n
-saidWritten (written.Refused r) = refused (number r)
+abbrev pub writtenResult : Written → Result ℕ
+writtenResult (written.Filled n) = gives n
+writtenResult (written.Refused r) = refused (number r)
 
-abbrev pub saidReported : Reported → Said Sums
-saidReported (reported.Sums s) = gives s
-saidReported reported.Torn = refused 3
+abbrev pub reportResult : Reported → Result Sums
+reportResult (reported.Sums s) = gives s
+reportResult reported.Torn = refused 3
 
 -- the place that a search found
 abbrev pub placeFound : Found → Option ℕ

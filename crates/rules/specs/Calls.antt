@@ -6,9 +6,6 @@ use Rattle.rules.specs.declared.Settings.{Settings}
 use Rattle.rules.specs.declared.Record.{Record}
 use Rattle.rules.specs.declared.Shape.{Shape}
 use Rattle.rules.specs.declared.Refusal.the-variants as refusal
-use Rattle.rules.specs.declared.Started.{Started}
-use Rattle.rules.specs.declared.Referred.{Referred}
-use Rattle.rules.specs.declared.Applied.{Applied}
 use Rattle.rules.specs.declared.Point.{Point}
 use Rattle.rules.specs.declared.PlotPoint.{PlotPoint}
 use Rattle.rules.specs.declared.Event.{Event}
@@ -16,117 +13,88 @@ use Rattle.rules.specs.declared.Event.the-variants.{Location, Span, Rest
 use Rattle.rules.specs.Settings.{withDefaults, outOfRange, Histogram, Tables}
 use Rattle.rules.specs.Reference.{Reply, Stepped, step}
 use Rattle.rules.specs.Curve.{totalOf, curvePoint, plotPoint}
-use Rattle.rules.specs.Answers.{Said, refused, gives, saidStarted, saidAnswer, saidTaken}
-use Rattle.rules.specs.Order.{Judged, _when_, says, leaves}
+use Rattle.rules.specs.Answers.{Result, refused, gives}
+use Rattle.rules.specs.Order.{Outcome, outcome, Judged, _when_, says, byOrder}
 use Rattle.rules.specs.Events.{settingsOf, referencesOf}
-use Rattle.rules.specs.Layout.{Held, tablesOf, held, sampleOf, hashFor, profileOf, laid, freshTables, freshRecord}
+use Rattle.rules.specs.Layout.{Tracker, sampleOf, hashFor, profileOf, stored, freshTables, freshRecord}
 use Rattle.rules.specs.Conditions.{bucketsTooShort, tooShort, tornRecord, tornReport, tornFor, full, stale}
-
--- what a call says, and what it leaves
-pub record Outcome (A : Type 0) : Type 0 where
-  pub said : Said A
-  pub left : Held
-
--- a refusal leaves everything as it was
-abbrev pub refusing : {A : Type 0} → ℕ → Held → Outcome A
-refusing n s = record { said = refused n; left = s }
-
--- what a start says, and what it leaves in the tables
-pub record Beginning : Type 0 where
-  pub said : Said Record
-  pub tables : Tables
-
--- a start under the settings s, by its order
-abbrev pub starting : List Judged → Settings → Tables → Beginning
-starting order s t = record { said = says order (freshRecord s); tables = leaves order t (freshTables s t) }
 
 -- setup: 1, 2
 abbrev pub setupOrder : Settings → Tables → List Judged
 setupOrder given t = (refusal.Settings when outOfRange (withDefaults given)) ∷ (refusal.Tables when tooShort (withDefaults given) t) ∷ []
 
-unfoldable pub setupOf : Settings → Tables → Beginning
-setupOf given t = starting (setupOrder given t) (withDefaults given) t
+unfoldable pub setupOf : Settings → Tables → Outcome Record Tables
+setupOf given t = byOrder (setupOrder given t) (freshRecord (withDefaults given)) t (freshTables (withDefaults given) t)
 
 -- a restart with the same settings: 3 for the record, 2
 abbrev pub restartOrder : Record → Tables → List Judged
-restartOrder k t = (refusal.Torn when tornRecord k) ∷ (refusal.Tables when tooShort (k .settings) t) ∷ []
+restartOrder kept t = (refusal.Torn when tornRecord kept) ∷ (refusal.Tables when tooShort (kept .settings) t) ∷ []
 
-unfoldable pub restartOf : Record → Tables → Beginning
-restartOf k t = starting (restartOrder k t) (k .settings) t
+unfoldable pub restartOf : Record → Tables → Outcome Record Tables
+restartOf kept t = byOrder (restartOrder kept t) (freshRecord (kept .settings)) t (freshTables (kept .settings) t)
 
 -- what one reference does, once nothing refuses it
-abbrev pub stepOf : (x : ℕ) → Held → Stepped
+abbrev pub stepOf : (x : ℕ) → Tracker → Stepped
 stepOf x s = step (hashFor (s .kept .settings)) (s .kept .settings .limit) (profileOf (s .kept .settings)) x (sampleOf s)
 
 -- a reference: 3 for the record, 2, 4, then 3 for the single bucket it would record in
-abbrev pub referOrder : (x : ℕ) → Held → List Judged
+abbrev pub referOrder : (x : ℕ) → Tracker → List Judged
 referOrder x s =
-    (refusal.Torn when tornRecord (s .kept)) ∷ (refusal.Tables when tooShort (s .kept .settings) (s .tables)) ∷ (refusal.Full when full (s .kept .numbers))
-    ∷ (refusal.Torn when tornFor x s) ∷ []
+    (refusal.Torn when tornRecord (s .kept))
+    ∷ (refusal.Tables when tooShort (s .kept .settings) (s .tables))
+    ∷ (refusal.Full when full (s .kept .numbers))
+    ∷ (refusal.Torn when tornFor x s)
+    ∷ []
 
-unfoldable pub referOf : (x : ℕ) → Held → Outcome Reply
-referOf x s =
-    let order = referOrder x s in
-    record { said = says order (stepOf x s .reply); left = leaves order s (laid (stepOf x s) s) }
+unfoldable pub referOf : (x : ℕ) → Tracker → Outcome Reply Tracker
+referOf x s = byOrder (referOrder x s) (stepOf x s .reply) s (stored (stepOf x s) s)
 
 -- a point: 3 for the record, 2, 5, 6, 3 for the buckets, 9
 abbrev pub pointOrder : Record → Shape → (point : ℕ) → Histogram → List Judged
-pointOrder k believed point g =
-    (refusal.Torn when tornRecord k) ∷ (refusal.Tables when bucketsTooShort (k .settings) g) ∷ (refusal.Stale when stale believed (k .settings))
-    ∷ (refusal.Point when ltb (k .settings .buckets) point) ∷ (refusal.Torn when tornReport (k .numbers .references) (k .threshold) (k .settings .buckets) g)
-    ∷ (refusal.Empty when eqb (totalOf (k .threshold) (k .settings .buckets) g) 0) ∷ []
+pointOrder kept believed point g =
+    (refusal.Torn when tornRecord kept)
+    ∷ (refusal.Tables when bucketsTooShort (kept .settings) g)
+    ∷ (refusal.Stale when stale believed (kept .settings))
+    ∷ (refusal.Point when ltb (kept .settings .buckets) point)
+    ∷ (refusal.Torn when tornReport (kept .numbers .references) (kept .threshold) (kept .settings .buckets) g)
+    ∷ (refusal.Empty when eqb (totalOf (kept .threshold) (kept .settings .buckets) g) 0)
+    ∷ []
 
-unfoldable pub pointOf : Record → Shape → (point : ℕ) → Histogram → Said Point
-pointOf k believed point g = says (pointOrder k believed point g) (curvePoint (profileOf (k .settings)) (k .threshold) point g)
+unfoldable pub pointOf : Record → Shape → (point : ℕ) → Histogram → Result Point
+pointOf kept believed point g = says (pointOrder kept believed point g) (curvePoint (profileOf (kept .settings)) (kept .threshold) point g)
 
 -- the shape that the record itself has
 abbrev pub ownShape : Record → Shape
-ownShape k = record { buckets = k .settings .buckets; width = k .settings .width }
+ownShape kept = record { buckets = kept .settings .buckets; width = kept .settings .width }
 
 -- a point under the record's own shape
-abbrev pub ownPoint : Record → (point : ℕ) → Histogram → Said Point
-ownPoint k point g = pointOf k (ownShape k) point g
-
--- what is said, with its value changed
-abbrev pub onGives : {A B : Type 0} → (A → B) → Said A → Said B
-onGives f (refused n) = refused n
-onGives f (gives a) = gives (f a)
+abbrev pub ownPoint : Record → (point : ℕ) → Histogram → Result Point
+ownPoint kept point g = pointOf kept (ownShape kept) point g
 
 -- the same point as a pair of doubles
-abbrev pub plotOf : Record → Shape → (point : ℕ) → Histogram → Said PlotPoint
-plotOf k believed point g = onGives plotPoint (pointOf k believed point g)
+unfoldable pub plotOf : Record → Shape → (point : ℕ) → Histogram → Result PlotPoint
+plotOf kept believed point g = says (pointOrder kept believed point g) (plotPoint (curvePoint (profileOf (kept .settings)) (kept .threshold) point g))
 
 -- ---- trace events
 
--- a start over a tracker that had the record k: a refused one keeps it
-abbrev pub startedOver : Record → Said Record → Tables → Outcome (Unit {0})
-startedOver k (refused n) t = record { said = refused n; left = record { kept = k; tables = t } }
-startedOver k (gives r) t = record { said = gives tt; left = record { kept = r; tables = t } }
+-- a start over a tracker that had the record kept: a refused one keeps it
+abbrev pub startedOver : Record → Result Record → Tables → Outcome (Unit {0}) Tracker
+startedOver kept (refused n) t = outcome (refused n) (record { kept = kept; tables = t })
+startedOver kept (gives r) t = outcome (gives tt) (record { kept = r; tables = t })
 
 -- after a reference that was refused nothing more is done
-abbrev pub goingOn : Said Reply → Held → Outcome (Unit {0}) → Outcome (Unit {0})
-goingOn (refused n) s rest = record { said = refused n; left = s }
+abbrev pub goingOn : Result Reply → Tracker → Outcome (Unit {0}) Tracker → Outcome (Unit {0}) Tracker
+goingOn (refused n) s rest = outcome (refused n) s
 goingOn (gives r) s rest = rest
 
 -- references one after the other, until one is refused
-unfoldable pub referAll : List ℕ → Held → Outcome (Unit {0})
-referAll [] s = record { said = gives tt; left = s }
-referAll (x ∷ xs) s = goingOn (referOf x s .said) (referOf x s .left) (referAll xs (referOf x s .left))
+unfoldable pub referAll : List ℕ → Tracker → Outcome (Unit {0}) Tracker
+referAll [] s = outcome (gives tt) s
+referAll (x ∷ xs) s = goingOn (referOf x s .result) (referOf x s .left) (referAll xs (referOf x s .left))
 
 -- one event
-unfoldable pub applyOf : Event → Held → Outcome (Unit {0})
+unfoldable pub applyOf : Event → Tracker → Outcome (Unit {0}) Tracker
 applyOf (Location x) s = referAll (referencesOf (Location x)) s
-applyOf (Span offset length) s = referAll (referencesOf (Span offset length)) s
-applyOf Restart s = startedOver (s .kept) (restartOf (s .kept) (s .tables) .said) (restartOf (s .kept) (s .tables) .tables)
-applyOf (Setup b) s = startedOver (s .kept) (setupOf (settingsOf b) (s .tables) .said) (setupOf (settingsOf b) (s .tables) .tables)
-
--- ---- what the code's answers say, with the tables as the call left them
-
-abbrev pub afterStarted : Started → (locations counts thresholds : List ℕ) → Beginning
-afterStarted r locations counts thresholds = record { said = saidStarted r; tables = tablesOf locations counts thresholds }
-
-abbrev pub afterReferred : Referred → (locations counts thresholds : List ℕ) → Outcome Reply
-afterReferred r locations counts thresholds = record { said = saidAnswer (r .answer); left = held (r .kept) locations counts thresholds }
-
-abbrev pub afterApplied : Applied → (locations counts thresholds : List ℕ) → Outcome (Unit {0})
-afterApplied r locations counts thresholds = record { said = saidTaken (r .answer); left = held (r .kept) locations counts thresholds }
+applyOf (Span offset bytes) s = referAll (referencesOf (Span offset bytes)) s
+applyOf Restart s = startedOver (s .kept) (restartOf (s .kept) (s .tables) .result) (restartOf (s .kept) (s .tables) .left)
+applyOf (Setup b) s = startedOver (s .kept) (setupOf (settingsOf b) (s .tables) .result) (setupOf (settingsOf b) (s .tables) .left)

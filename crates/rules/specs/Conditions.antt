@@ -7,10 +7,10 @@ use Rattle.rules.specs.declared.Settings.{Settings}
 use Rattle.rules.specs.declared.Numbers.{Numbers}
 use Rattle.rules.specs.declared.Record.{Record}
 use Rattle.rules.specs.declared.Shape.{Shape}
-use Rattle.rules.specs.Settings.{P, outOfRange, Histogram, Tables, needed, mostReferences}
+use Rattle.rules.specs.Settings.{fullRate, mostReferences, oneReference, outOfRange, Histogram, Tables, needed}
 use Rattle.rules.specs.Reference.{firstPlace, under, countAt, thresholdAt, bucketFor}
 use Rattle.rules.specs.Curve.{rawTo}
-use Rattle.rules.specs.Layout.{Held, liveOf, hashFor, profileOf}
+use Rattle.rules.specs.Layout.{Tracker, liveOf, hashFor, profileOf}
 
 -- ---- 2 Tables
 
@@ -26,14 +26,14 @@ tooShort s t = ltb (length (t .locations)) (s .limit) || bucketsTooShort s (t .h
 
 -- the record
 unfoldable pub tornRecord : Record → Bool
-tornRecord k =
-    outOfRange (k .settings) || ltb (k .settings .limit) (k .live) || ltb (k .settings .start) (k .threshold)
-    || ltb (k .numbers .references) (k .numbers .sampled) || ltb mostReferences (k .numbers .references)
+tornRecord kept =
+    outOfRange (kept .settings) || ltb (kept .settings .limit) (kept .live) || ltb (kept .settings .start) (kept .threshold)
+    || ltb (kept .numbers .references) (kept .numbers .sampled) || ltb mostReferences (kept .numbers .references)
 
 -- a bucket: threshold 0, below t or above P, or count above 256·references
 unfoldable pub tornBucket : (references t count threshold : ℕ) → Bool
 tornBucket references t count threshold =
-    eqb threshold 0 || ltb threshold t || ltb P threshold || ltb (256 * references) count
+    eqb threshold 0 || ltb threshold t || ltb fullRate threshold || ltb (oneReference * references) count
 
 -- bucket j
 abbrev pub tornAt : (references t j : ℕ) → Histogram → Bool
@@ -46,14 +46,14 @@ anyTorn references t (suc n) g = anyTorn references t n g || tornAt references t
 
 -- of the buckets below n one is torn, or their raw counts sum above 256·references
 unfoldable pub tornTo : (references t n : ℕ) → Histogram → Bool
-tornTo references t n g = anyTorn references t n g || ltb (256 * references) (rawTo n g)
+tornTo references t n g = anyTorn references t n g || ltb (oneReference * references) (rawTo n g)
 
 -- the buckets at a report: all that are needed
 abbrev pub tornReport : (references t buckets : ℕ) → Histogram → Bool
 tornReport references t buckets g = tornTo references t (needed buckets) g
 
 -- the single bucket that a reference to x would record in; none if it would be Skipped
-abbrev pub tornFor : (x : ℕ) → Held → Bool
+abbrev pub tornFor : (x : ℕ) → Tracker → Bool
 tornFor x s =
     cond (under (hashFor (s .kept .settings)) (s .kept .threshold) x)
     (tornAt (s .kept .numbers .references) (s .kept .threshold) (bucketFor (profileOf (s .kept .settings)) (s .kept .threshold) (firstPlace x (liveOf s))) (s .tables .histogram))

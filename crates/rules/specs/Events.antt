@@ -5,14 +5,14 @@ use mathlib.Core.List.{List, [], _∷_, _++_}
 use lib.Dec.{eqb, ltb}
 use lib.ListN.{length, getD, drop}
 use Rattle.rules.specs.declared.Settings.{Settings}
-use Rattle.rules.specs.declared.Body.{Body}
+use Rattle.rules.specs.declared.SetupBody.{SetupBody}
 use Rattle.rules.specs.declared.Refusal.the-variants as refusal
-use Rattle.rules.specs.declared.Written.{Written}
 use Rattle.rules.specs.declared.Event.{Event}
 use Rattle.rules.specs.declared.Event.the-variants.{Location, Span, Restart, Setup}
 use Rattle.rules.specs.Lists.{over}
-use Rattle.rules.specs.Answers.{Said, refused, gives, Got, saidWritten}
-use Rattle.rules.specs.Order.{Judged, _when_, says, leaves}
+use Rattle.rules.specs.Settings.{Tables}
+use Rattle.rules.specs.Answers.{Result, refused, gives, Got}
+use Rattle.rules.specs.Order.{Outcome, Judged, _when_, says, byOrder}
 
 -- a number as n bytes, little-endian
 abbrev pub bytesOf : (n x : ℕ) → List ℕ
@@ -27,7 +27,7 @@ numberAt (suc n) at s = getD s at 0 + 256 * numberAt n (suc at) s
 -- an event's bytes: the kind, then the body
 abbrev pub eventBytes : Event → List ℕ
 eventBytes (Location x) = 1 ∷ bytesOf 8 x
-eventBytes (Span offset length) = 2 ∷ (bytesOf 8 offset ++ bytesOf 4 length)
+eventBytes (Span offset bytes) = 2 ∷ (bytesOf 8 offset ++ bytesOf 4 bytes)
 eventBytes Restart = 3 ∷ []
 eventBytes (Setup b) = 4 ∷ (bytesOf 4 (b .limit) ++ (bytesOf 4 (b .start) ++ (bytesOf 4 (b .width) ++ (bytesOf 4 (b .buckets) ++ bytesOf 1 (b .kind)))))
 
@@ -36,17 +36,17 @@ abbrev pub eventLength : Event → ℕ
 eventLength e = length (eventBytes e)
 
 -- the body of a kind 4 event
-abbrev pub bodyOf : List ℕ → Body
-bodyOf s = record { limit = numberAt 4 1 s; start = numberAt 4 5 s; width = numberAt 4 9 s; buckets = numberAt 4 13 s; kind = numberAt 1 17 s }
+abbrev pub setupBodyOf : List ℕ → SetupBody
+setupBodyOf s = record { limit = numberAt 4 1 s; start = numberAt 4 5 s; width = numberAt 4 9 s; buckets = numberAt 4 13 s; kind = numberAt 1 17 s }
 
 -- the settings that a kind 4 event asks for, before defaults
-abbrev pub settingsOf : Body → Settings
+abbrev pub settingsOf : SetupBody → Settings
 settingsOf b = record { limit = b .limit; start = b .start; width = b .width; buckets = b .buckets; hashing = record { kind = b .kind } }
 
 -- an event's numbers fit their types, as those of any event that a program holds do
 abbrev pub Fits : Event → Type 0
 Fits (Location x) = x < 2 ^ 64
-Fits (Span offset length) = (offset < 2 ^ 64) × (length < 2 ^ 32)
+Fits (Span offset bytes) = (offset < 2 ^ 64) × (bytes < 2 ^ 32)
 Fits Restart = Unit {0}
 Fits (Setup b) = (b .limit < 2 ^ 32) × (b .start < 2 ^ 32) × (b .width < 2 ^ 32) × (b .buckets < 2 ^ 32) × (b .kind < 2 ^ 8)
 
@@ -57,7 +57,7 @@ Bytes s = (i : ℕ) → getD s i 0 < 256
 -- the references that an event stands for: kind 1 one, kind 2 one to offset / 4,096, or none if its length is 0
 abbrev pub referencesOf : Event → List ℕ
 referencesOf (Location x) = x ∷ []
-referencesOf (Span offset length) = cond (eqb length 0) [] (offset / 4096 ∷ [])
+referencesOf (Span offset bytes) = cond (eqb bytes 0) [] (offset / 4096 ∷ [])
 referencesOf Restart = []
 referencesOf (Setup b) = []
 
@@ -74,7 +74,7 @@ abbrev pub eventOf : (kind : ℕ) → List ℕ → Event
 eventOf kind s =
     cond (eqb kind 1) (Location (numberAt 8 1 s))
     (cond (eqb kind 2) (Span (numberAt 8 1 s) (numberAt 4 9 s))
-    (cond (eqb kind 3) Restart (Setup (bodyOf s))))
+    (cond (eqb kind 3) Restart (Setup (setupBodyOf s))))
 
 -- reading: 7 if empty, 8, 7
 abbrev pub readOrder : List ℕ → List Judged
@@ -82,36 +82,26 @@ readOrder s =
     let kind = getD s 0 0 in
     (refusal.Short when eqb (length s) 0) ∷ (refusal.Kind when unknown kind) ∷ (refusal.Short when ltb (length s) (wholeLength kind)) ∷ []
 
-unfoldable pub readOf : List ℕ → Said Got
+unfoldable pub readOf : List ℕ → Result Got
 readOf s =
     let kind = getD s 0 0 in
     says (readOrder s) (record { event = eventOf kind s; taken = wholeLength kind })
 
 -- an event of n bytes, where they are all there
-abbrev pub whole : (n : ℕ) → Event → List ℕ → Said Got
+abbrev pub whole : (n : ℕ) → Event → List ℕ → Result Got
 whole n e s = says ((refusal.Short when ltb (length s) n) ∷ []) (record { event = e; taken = n })
 
 -- what is unread: what follows the first event, or all when that is refused
-abbrev pub unreadAfter : Said Got → List ℕ → List ℕ
+abbrev pub unreadAfter : Result Got → List ℕ → List ℕ
 unreadAfter (refused n) s = s
 unreadAfter (gives g) s = drop (g .taken) s
 
 abbrev pub unreadOf : List ℕ → List ℕ
 unreadOf s = unreadAfter (readOf s) s
 
--- what writing says, and what it leaves in the buffer
-pub record Filling : Type 0 where
-  pub said : Said ℕ
-  pub buffer : List ℕ
-
 -- writing: 2; else exactly the event's length from the front
 abbrev pub writeOrder : Event → List ℕ → List Judged
 writeOrder e buffer = (refusal.Tables when ltb (length buffer) (eventLength e)) ∷ []
 
-unfoldable pub writeOf : Event → List ℕ → Filling
-writeOf e buffer =
-    let order = writeOrder e buffer in
-    record { said = says order (eventLength e); buffer = leaves order buffer (over (eventBytes e) buffer) }
-
-abbrev pub afterWritten : Written → List ℕ → Filling
-afterWritten r buffer = record { said = saidWritten r; buffer = buffer }
+unfoldable pub writeOf : Event → List ℕ → Outcome ℕ (List ℕ)
+writeOf e buffer = byOrder (writeOrder e buffer) (eventLength e) buffer (over (eventBytes e) buffer)

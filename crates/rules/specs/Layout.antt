@@ -10,7 +10,7 @@ use Rattle.rules.specs.Settings.{hashOf, Histogram, Tables}
 use Rattle.rules.specs.Reference.{Sample, Profile, widths, Reply, skipped, first, again, Stepped, blank}
 
 -- a record with its tables
-pub record Held : Type 0 where
+pub record Tracker : Type 0 where
   pub kept : Record
   pub tables : Tables
 
@@ -20,14 +20,14 @@ bucketsOf counts thresholds = record { counts = counts; thresholds = thresholds 
 abbrev pub tablesOf : (locations counts thresholds : List ℕ) → Tables
 tablesOf locations counts thresholds = record { locations = locations; histogram = bucketsOf counts thresholds }
 
-abbrev pub held : Record → (locations counts thresholds : List ℕ) → Held
-held k locations counts thresholds = record { kept = k; tables = tablesOf locations counts thresholds }
+abbrev pub tracker : Record → (locations counts thresholds : List ℕ) → Tracker
+tracker kept locations counts thresholds = record { kept = kept; tables = tablesOf locations counts thresholds }
 
 -- the live list stands at the front of the location table
-abbrev pub liveOf : Held → List ℕ
+abbrev pub liveOf : Tracker → List ℕ
 liveOf s = take (s .kept .live) (s .tables .locations)
 
-abbrev pub sampleOf : Held → Sample
+abbrev pub sampleOf : Tracker → Sample
 sampleOf s = record { threshold = s .kept .threshold; live = liveOf s; histogram = s .tables .histogram }
 
 abbrev pub hashFor : Settings → ℕ → ℕ
@@ -43,8 +43,8 @@ counted first n = record { references = n .references + 1; sampled = n .sampled 
 counted (again d) n = record { references = n .references + 1; sampled = n .sampled + 1 }
 
 -- a step's list over the front of the location table, its buckets in theirs, its threshold and live number in the record
-abbrev pub laid : Stepped → Held → Held
-laid r s = record {
+abbrev pub stored : Stepped → Tracker → Tracker
+stored r s = record {
   kept = record { settings = s .kept .settings; threshold = r .left .threshold; live = length (r .left .live); numbers = counted (r .reply) (s .kept .numbers) };
   tables = record { locations = over (r .left .live) (s .tables .locations); histogram = r .left .histogram };
 }
@@ -63,5 +63,5 @@ freshTables s t = record { locations = t .locations; histogram = freshBuckets s 
 abbrev pub freshRecord : Settings → Record
 freshRecord s = record { settings = s; threshold = s .start; live = 0; numbers = record { references = 0; sampled = 0 } }
 
-abbrev pub fresh : Settings → Tables → Held
+abbrev pub fresh : Settings → Tables → Tracker
 fresh s t = record { kept = freshRecord s; tables = freshTables s t }

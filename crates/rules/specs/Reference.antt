@@ -6,7 +6,7 @@ use mathlib.Core.Option.{Option, some, none}
 use lib.Dec.{eqb, ltb, leb}
 use lib.ListN.{length, getD, take, drop, set, replicate}
 use Rattle.rules.specs.Lists.{keep}
-use Rattle.rules.specs.Settings.{P, Histogram, needed}
+use Rattle.rules.specs.Settings.{fullRate, oneReference, Histogram, needed}
 
 -- the threshold in force, the live locations, latest first, and the histogram
 pub record Sample : Type 0 where
@@ -60,7 +60,7 @@ lowered hash t l = min t (largest hash l)
 
 -- the distance D as it counts at full rate: D·P/T rounded down
 abbrev pub scaledDistance : (t d : ℕ) → ℕ
-scaledDistance t d = d * P / t
+scaledDistance t d = d * fullRate / t
 
 -- a count made under the bucket threshold b, as it counts under t: c·T/b rounded down
 abbrev pub rescaled : (t c b : ℕ) → ℕ
@@ -73,10 +73,10 @@ countAt j g = getD (g .counts) j 0
 abbrev pub thresholdAt : ℕ → Histogram → ℕ
 thresholdAt j g = getD (g .thresholds) j 0
 
--- a reference recorded in bucket j under t: its count is rescaled, plus 256, and its threshold becomes t
+-- a reference recorded in bucket j under t: its count is rescaled, plus one reference, and its threshold becomes t
 abbrev pub recordIn : (t j : ℕ) → Histogram → Histogram
 recordIn t j g = record {
-  counts = set (g .counts) j (rescaled t (countAt j g) (thresholdAt j g) + 256);
+  counts = set (g .counts) j (rescaled t (countAt j g) (thresholdAt j g) + oneReference);
   thresholds = set (g .thresholds) j t;
 }
 
@@ -86,8 +86,8 @@ bucketFor f t (some d) = f .bucketOf (scaledDistance t d)
 bucketFor f t none = f .buckets + 1
 
 -- if more than limit are live, the threshold falls, and every entry whose hash is not below it leaves
-unfoldable pub settled : (ℕ → ℕ) → (limit t : ℕ) → List ℕ → Histogram → Sample
-settled hash limit t l g =
+unfoldable pub withinLimit : (ℕ → ℕ) → (limit t : ℕ) → List ℕ → Histogram → Sample
+withinLimit hash limit t l g =
     cond (ltb limit (length l))
     (record { threshold = lowered hash t l; live = keepBelow hash (lowered hash t l) l; histogram = g })
     (record { threshold = t; live = l; histogram = g })
@@ -102,8 +102,8 @@ pub record Stepped : Type 0 where
   pub left : Sample
 
 -- a sampled reference, by its place in the live list
-unfoldable pub sampled : (ℕ → ℕ) → (limit : ℕ) → Profile → (x : ℕ) → Sample → Option ℕ → Stepped
-sampled hash limit f x s (some d) =
+unfoldable pub sampledStep : (ℕ → ℕ) → (limit : ℕ) → Profile → (x : ℕ) → Sample → Option ℕ → Stepped
+sampledStep hash limit f x s (some d) =
     record {
       reply = again d;
       left = record {
@@ -112,16 +112,16 @@ sampled hash limit f x s (some d) =
         histogram = recordIn (s .threshold) (bucketFor f (s .threshold) (some d)) (s .histogram);
       };
     }
-sampled hash limit f x s none =
+sampledStep hash limit f x s none =
     record {
       reply = first;
-      left = settled hash limit (s .threshold) (x ∷ s .live) (recordIn (s .threshold) (bucketFor f (s .threshold) none) (s .histogram));
+      left = withinLimit hash limit (s .threshold) (x ∷ s .live) (recordIn (s .threshold) (bucketFor f (s .threshold) none) (s .histogram));
     }
 
 -- one reference: Skipped if its hash is not below the threshold
 unfoldable pub step : (ℕ → ℕ) → (limit : ℕ) → Profile → (x : ℕ) → Sample → Stepped
 step hash limit f x s =
-    cond (under hash (s .threshold) x) (sampled hash limit f x s (firstPlace x (s .live)))
+    cond (under hash (s .threshold) x) (sampledStep hash limit f x s (firstPlace x (s .live)))
     (record { reply = skipped; left = s })
 
 -- a fresh start over the bucket tables: all needed counts 0, all needed bucket thresholds T0

@@ -7,8 +7,17 @@ use lib.Dec.{eqb, ltb}
 use Rattle.rules.specs.declared.Hashing.{Hashing}
 use Rattle.rules.specs.declared.Settings.{Settings}
 
-abbrev pub P : ℕ
-P = 2 ^ 24
+-- P, full rate: every hash is below it, so a threshold of P samples every location
+abbrev pub fullRate : ℕ
+fullRate = 2 ^ 24
+
+-- at most 2^32 - 1 references are made in a run
+abbrev pub mostReferences : ℕ
+mostReferences = 2 ^ 32 - 1
+
+-- one reference, in the units of counts
+abbrev pub oneReference : ℕ
+oneReference = 256
 
 -- a setting of zero means its default
 abbrev pub orDefault : (default setting : ℕ) → ℕ
@@ -32,7 +41,7 @@ unknownHash h = ltb 1 (h .kind)
 unfoldable pub outOfRange : Settings → Bool
 outOfRange s =
     eqb (s .limit) 0 || ltb 8192 (s .limit)
-    || eqb (s .start) 0 || ltb P (s .start)
+    || eqb (s .start) 0 || ltb fullRate (s .start)
     || eqb (s .width) 0 || ltb (2 ^ 32 - 1) (s .width)
     || eqb (s .buckets) 0 || ltb 10000 (s .buckets)
     || unknownHash (s .hashing)
@@ -51,7 +60,7 @@ finaliser x = shiftStep (times (shiftStep (times (shiftStep x) 0xff51_afd7_ed55_
 
 -- the hash of a location: of kind 0 the location, of kind 1 its finaliser, modulo P
 unfoldable pub hashOf : Hashing → ℕ → ℕ
-hashOf h location = cond (eqb (h .kind) 0) (location % P) (finaliser location % P)
+hashOf h location = cond (eqb (h .kind) 0) (location % fullRate) (finaliser location % fullRate)
 
 -- the two bucket tables
 pub record Histogram : Type 0 where
@@ -66,7 +75,3 @@ pub record Tables : Type 0 where
 -- how many entries a bucket table needs: the buckets, far and first
 abbrev pub needed : (buckets : ℕ) → ℕ
 needed buckets = buckets + 2
-
--- at most 2^32 - 1 references are made in a run
-abbrev pub mostReferences : ℕ
-mostReferences = 2 ^ 32 - 1

@@ -94,7 +94,7 @@ pub enum Plotted {
 }
 
 // The body of a kind 4 event, as its bytes have it: zeros are zeros still.
-pub struct Body {
+pub struct SetupBody {
     pub limit: u32,
     pub start: u32,
     pub width: u32,
@@ -107,7 +107,7 @@ pub enum Event {
     Location(u64),
     Span { offset: u64, length: u32 },
     Restart,
-    Setup(Body),
+    Setup(SetupBody),
 }
 
 // The answer of reading: an event with the number of bytes it took, or a refusal.

@@ -70,8 +70,8 @@ room buffer counts e =
 -- ---- points
 
 -- a point that is answered has tables long enough
-pub point-needed : (k : Record) (n : ℕ) (g : Histogram) {p : Point} → ownPoint k n g ≡ gives p → k .settings .buckets + 2 ≤ length (g .counts)
-point-needed k n g e = buckets-long (k .settings) g (point-accepted k (ownShape k) n g e .buckets-long) .counts-long
+pub point-needed : (kept : Record) (n : ℕ) (g : Histogram) {p : Point} → ownPoint kept n g ≡ gives p → kept .settings .buckets + 2 ≤ length (g .counts)
+point-needed kept n g e = buckets-long (kept .settings) g (point-accepted kept (ownShape kept) n g e .buckets-long) .counts-long
 
 -- ---- numbers
 

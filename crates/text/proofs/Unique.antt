@@ -15,8 +15,8 @@ placed-once x m n u v p q =
     let e = p ∙ sym q in
     (ap (λ z. z .count) e, ap (λ z. z .buffer) e)
 
-pub put-curve-once : (k : Record) (g : Histogram) (buffer : List ℕ) → PlacedOnce (curveIn k g buffer)
-put-curve-once k g buffer = placed-once _
+pub put-curve-once : (kept : Record) (g : Histogram) (buffer : List ℕ) → PlacedOnce (curveIn kept g buffer)
+put-curve-once kept g buffer = placed-once _
 
 pub put-refused-line-once : (number place : ℕ) (buffer : List ℕ) → PlacedOnce (refusedIn number place buffer)
 put-refused-line-once number place buffer = placed-once _

@@ -9,7 +9,7 @@ use Rattle.rules.specs.declared.Record.{Record}
 use Rattle.rules.specs.declared.Point.{Point}
 use Rattle.rules.specs.Lists.{over}
 use Rattle.rules.specs.Settings.{Histogram}
-use Rattle.rules.specs.Answers.{Said, refused, gives}
+use Rattle.rules.specs.Answers.{Result, refused, gives}
 use Rattle.rules.specs.Calls.{ownPoint}
 
 -- ---- numbers
@@ -17,7 +17,7 @@ use Rattle.rules.specs.Calls.{ownPoint}
 -- in decimal, if so many digits are enough
 abbrev pub decimalMost : (digits n : ℕ) → List ℕ
 decimalMost zero n = []
-decimalMost (suc k) n = cond (ltb n 10) ((48 + n) ∷ []) (decimalMost k (n / 10) ++ ((48 + n % 10) ∷ []))
+decimalMost (suc digits) n = cond (ltb n 10) ((48 + n) ∷ []) (decimalMost digits (n / 10) ++ ((48 + n % 10) ∷ []))
 
 -- in decimal: 20 digits are enough for 64 bits
 unfoldable pub decimal : ℕ → List ℕ
@@ -69,9 +69,9 @@ atWord = 32 ∷ 97 ∷ 116 ∷ 32 ∷ []
 
 -- references, sampled references, threshold and live number
 abbrev pub firstLine : Record → List ℕ
-firstLine k =
-    (refsWord ++ decimal (k .numbers .references)) ++ ((sampledWord ++ decimal (k .numbers .sampled))
-    ++ ((thresholdWord ++ decimal (k .threshold)) ++ ((liveWord ++ decimal (k .live)) ++ newline)))
+firstLine kept =
+    (refsWord ++ decimal (kept .numbers .references)) ++ ((sampledWord ++ decimal (kept .numbers .sampled))
+    ++ ((thresholdWord ++ decimal (kept .threshold)) ++ ((liveWord ++ decimal (kept .live)) ++ newline)))
 
 -- size, misses and total
 abbrev pub pointLine : Point → List ℕ
@@ -84,22 +84,22 @@ refusedLine number place = (refusedWord ++ decimal number) ++ ((atWord ++ decima
 -- ---- the curve
 
 -- the line of a point, where it is answered
-abbrev pub lineOf : Said Point → List ℕ
+abbrev pub lineOf : Result Point → List ℕ
 lineOf (refused n) = []
 lineOf (gives p) = pointLine p
 
 -- the lines of the points below n
 unfoldable pub linesTo : ℕ → Record → Histogram → List ℕ
-linesTo zero k g = []
-linesTo (suc n) k g = linesTo n k g ++ lineOf (ownPoint k n g)
+linesTo zero kept g = []
+linesTo (suc n) kept g = linesTo n kept g ++ lineOf (ownPoint kept n g)
 
 -- a line per point and `end`; if the curve is empty, `empty` stands in their place
-abbrev pub pointsOr : Said Point → Record → Histogram → List ℕ
-pointsOr (refused n) k g = emptyLine
-pointsOr (gives p) k g = linesTo (k .settings .buckets + 1) k g ++ endLine
+abbrev pub pointsOr : Result Point → Record → Histogram → List ℕ
+pointsOr (refused n) kept g = emptyLine
+pointsOr (gives p) kept g = linesTo (kept .settings .buckets + 1) kept g ++ endLine
 
 unfoldable pub curveText : Record → Histogram → List ℕ
-curveText k g = firstLine k ++ pointsOr (ownPoint k 0 g) k g
+curveText kept g = firstLine kept ++ pointsOr (ownPoint kept 0 g) kept g
 
 -- ---- text in a buffer
 
@@ -124,7 +124,7 @@ frontOr lacking text buffer = cond lacking (placed 0 buffer) (placed (length tex
 
 -- the longest curve that the program's tables give, of 1,025 points, has less than 65,536 bytes
 abbrev pub curveIn : Record → Histogram → (buffer : List ℕ) → Placed
-curveIn k g buffer = frontOr (ltb (length buffer) 65536 || ltb 1026 (length (g .counts))) (curveText k g) buffer
+curveIn kept g buffer = frontOr (ltb (length buffer) 65536 || ltb 1026 (length (g .counts))) (curveText kept g) buffer
 
 -- the longest line of a refused event has 53 bytes
 abbrev pub refusedIn : (number place : ℕ) (buffer : List ℕ) → Placed

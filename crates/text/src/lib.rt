@@ -7,9 +7,9 @@ ghost use mathlib.Core.Path.{_≡_};
 ghost use mathlib.Core.List.{_++_};
 ghost use Prim.Native.Nat.{_+_, _≤_};
 ghost use lib.ListN.{length};
+ghost use Rattle.rules.specs.Answers.{pointResult};
 ghost use Rattle.rules.specs.Layout.{bucketsOf};
 ghost use Rattle.rules.specs.Calls.{ownPoint};
-ghost use Rattle.rules.specs.Answers.{saidPointed};
 ghost use Rattle.text.specs.Text.{decimal, newline, firstLine, pointLine, lineOf, linesTo, pointsOr, Adds, placed, curveIn, refusedIn};
 
 // ---- text in a buffer, behind the first bytes of it
@@ -57,14 +57,21 @@ fn put_last_two(out: &mut [u8], at: usize, word: &[u8], n: u64, other: &[u8], m:
 }
 
 // References, sampled references, threshold and live number.
-fn put_first_line(out: &mut [u8], k: Record) -> usize
+fn put_first_line(out: &mut [u8], kept: Record) -> usize
     requires { ⌜ 118 ≤ length (now out) ⌝ }
-    ensures { λ r. ⌜ Adds (now (out .entry)) 0 (firstLine k) (now (out .exit)) r ⌝ }
+    ensures { λ r. ⌜ Adds (now (out .entry)) 0 (firstLine kept) (now (out .exit)) r ⌝ }
     ensures { λ r. ⌜ r ≤ 118 ⌝ }
 {
-    let references = put_both(out, 0, b"curve refs ", k.numbers.references);
-    let sampled = put_both(out, references, b" sampled ", k.numbers.sampled);
-    put_last_two(out, sampled, b" threshold ", k.threshold, b" live ", k.live)
+    let references = put_both(out, 0, b"curve refs ", kept.numbers.references);
+    let sampled = put_both(out, references, b" sampled ", kept.numbers.sampled);
+    put_last_two(
+        out,
+        sampled,
+        b" threshold ",
+        kept.threshold,
+        b" live ",
+        kept.live,
+    )
 }
 
 // Size, misses and total.
@@ -80,59 +87,59 @@ fn put_point_line(out: &mut [u8], at: usize, p: Point) -> usize
 // ---- the curve
 
 // A point, for the shape that the record itself has.
-fn point_at(k: Record, number: u64, counts: &[u64], thresholds: &[u32]) -> Pointed
-    ensures { λ r. ⌜ saidPointed r ≡ ownPoint k number (bucketsOf (now (counts .entry)) (now (thresholds .entry))) ⌝ }
+fn point_at(kept: Record, number: u64, counts: &[u64], thresholds: &[u32]) -> Pointed
+    ensures { λ r. ⌜ pointResult r ≡ ownPoint kept number (bucketsOf (now (counts .entry)) (now (thresholds .entry))) ⌝ }
 {
     let shape = Shape {
-        buckets: k.settings.buckets,
-        width: k.settings.width,
+        buckets: kept.settings.buckets,
+        width: kept.settings.width,
     };
-    points::point(k, shape, number, counts, thresholds)
+    points::point(kept, shape, number, counts, thresholds)
 }
 
 // The line of a point, where it is answered.
 fn put_point(
     out: &mut [u8],
     at: usize,
-    k: Record,
+    kept: Record,
     number: u64,
     counts: &[u64],
     thresholds: &[u32],
 ) -> usize
     requires { ⌜ at + 63 ≤ length (now out) ⌝ }
-    ensures { λ r. ⌜ Adds (now (out .entry)) at (lineOf (ownPoint k number (bucketsOf (now (counts .entry)) (now (thresholds .entry))))) (now (out .exit)) r ⌝ }
+    ensures { λ r. ⌜ Adds (now (out .entry)) at (lineOf (ownPoint kept number (bucketsOf (now (counts .entry)) (now (thresholds .entry))))) (now (out .exit)) r ⌝ }
     ensures { λ r. ⌜ r ≤ at + 63 ⌝ }
 {
-    match point_at(k, number, counts, thresholds) {
+    match point_at(kept, number, counts, thresholds) {
         Pointed::At(p) => put_point_line(out, at, p),
         Pointed::Refused(_) => at,
     }
 }
 
 // A line per point, 0 to B.
-fn put_points(out: &mut [u8], at: usize, k: Record, counts: &[u64], thresholds: &[u32]) -> usize
-    requires { ⌜ (at ≤ 118) × (k .settings .buckets ≤ 1024) × (65536 ≤ length (now out)) ⌝ }
-    ensures { λ r. ⌜ Adds (now (out .entry)) at (linesTo (k .settings .buckets + 1) k (bucketsOf (now (counts .entry)) (now (thresholds .entry)))) (now (out .exit)) r ⌝ }
+fn put_points(out: &mut [u8], at: usize, kept: Record, counts: &[u64], thresholds: &[u32]) -> usize
+    requires { ⌜ (at ≤ 118) × (kept .settings .buckets ≤ 1024) × (65536 ≤ length (now out)) ⌝ }
+    ensures { λ r. ⌜ Adds (now (out .entry)) at (linesTo (kept .settings .buckets + 1) kept (bucketsOf (now (counts .entry)) (now (thresholds .entry)))) (now (out .exit)) r ⌝ }
     ensures { λ r. ⌜ r ≤ 65000 ⌝ }
 {
-    let last = k.settings.buckets;
+    let last = kept.settings.buckets;
     let mut end = at;
     let mut number: u64 = 0;
     while number <= last {
-        end = put_point(out, end, k, number, counts, thresholds);
+        end = put_point(out, end, kept, number, counts, thresholds);
         number += 1;
     }
     end
 }
 
 // The points and `end`, or `empty`.
-fn put_body(out: &mut [u8], at: usize, k: Record, counts: &[u64], thresholds: &[u32]) -> usize
+fn put_body(out: &mut [u8], at: usize, kept: Record, counts: &[u64], thresholds: &[u32]) -> usize
     requires { ⌜ (at ≤ 118) × (length (now counts) ≤ 1026) × (65536 ≤ length (now out)) ⌝ }
-    ensures { λ r. ⌜ Adds (now (out .entry)) at (pointsOr (ownPoint k 0 (bucketsOf (now (counts .entry)) (now (thresholds .entry)))) k (bucketsOf (now (counts .entry)) (now (thresholds .entry)))) (now (out .exit)) r ⌝ }
+    ensures { λ r. ⌜ Adds (now (out .entry)) at (pointsOr (ownPoint kept 0 (bucketsOf (now (counts .entry)) (now (thresholds .entry)))) kept (bucketsOf (now (counts .entry)) (now (thresholds .entry)))) (now (out .exit)) r ⌝ }
 {
-    match point_at(k, 0, counts, thresholds) {
+    match point_at(kept, 0, counts, thresholds) {
         Pointed::At(_) => {
-            let points = put_points(out, at, k, counts, thresholds);
+            let points = put_points(out, at, kept, counts, thresholds);
             put(out, points, b"end\n")
         }
         Pointed::Refused(_) => put(out, at, b"empty\n"),
@@ -142,14 +149,14 @@ fn put_body(out: &mut [u8], at: usize, k: Record, counts: &[u64], thresholds: &[
 // ---- at the front of a buffer
 
 // The curve. A buffer that is shorter than 65,536 bytes, and more counts than the program has, get nothing and 0.
-pub fn put_curve(out: &mut [u8], k: Record, counts: &[u64], thresholds: &[u32]) -> usize
-    ensures { λ r. ⌜ placed r (now (out .exit)) ≡ curveIn k (bucketsOf (now (counts .entry)) (now (thresholds .entry))) (now (out .entry)) ⌝ }
+pub fn put_curve(out: &mut [u8], kept: Record, counts: &[u64], thresholds: &[u32]) -> usize
+    ensures { λ r. ⌜ placed r (now (out .exit)) ≡ curveIn kept (bucketsOf (now (counts .entry)) (now (thresholds .entry))) (now (out .entry)) ⌝ }
 {
     if (out.len() < 65536) | (1026 < counts.len()) {
         return 0;
     }
-    let first = put_first_line(out, k);
-    put_body(out, first, k, counts, thresholds)
+    let first = put_first_line(out, kept);
+    put_body(out, first, kept, counts, thresholds)
 }
 
 // A refused event's number, and the place of its first byte. A buffer that is shorter than 53 bytes gets nothing and 0.

@@ -9,8 +9,8 @@ use Rattle.rules.specs.declared.Record.{Record}
 use Rattle.words.specs.Words.{recordOf, wordsOf}
 
 -- the words of a record are that record's, and a record's words are the nine that it came from
-pub record-of-words : (k : Record) → recordOf (wordsOf k) ≡ k
-record-of-words k = refl
+pub record-of-words : (kept : Record) → recordOf (wordsOf kept) ≡ kept
+record-of-words kept = refl
 
 word-of : (w : List ℕ) (i : ℕ) → i < 9 → getD (wordsOf (recordOf w)) i 0 ≡ getD w i 0
 word-of w zero h = refl

@@ -9,7 +9,7 @@ use Rattle.rules.specs.declared.PlotPoint.{PlotPoint}
 use Rattle.rules.specs.declared.Event.{Event}
 use Rattle.rules.specs.declared.Event.the-variants.{Location, Span, Restart, Setup}
 use Rattle.rules.specs.Reference.{Reply, skipped, first, again}
-use Rattle.rules.specs.Answers.{Said, refused, gives, Got}
+use Rattle.rules.specs.Answers.{Result, refused, gives, Got}
 
 -- ---- the record: limit, start, width, buckets, hash kind, threshold, live, references, sampled
 
@@ -22,9 +22,9 @@ recordOf w = record {
 }
 
 abbrev pub wordsOf : Record → List ℕ
-wordsOf k =
-    k .settings .limit ∷ k .settings .start ∷ k .settings .width ∷ k .settings .buckets ∷ k .settings .hashing .kind
-    ∷ k .threshold ∷ k .live ∷ k .numbers .references ∷ k .numbers .sampled ∷ []
+wordsOf kept =
+    kept .settings .limit ∷ kept .settings .start ∷ kept .settings .width ∷ kept .settings .buckets ∷ kept .settings .hashing .kind
+    ∷ kept .threshold ∷ kept .live ∷ kept .numbers .references ∷ kept .numbers .sampled ∷ []
 
 -- ---- what calls give, as words
 
@@ -55,6 +55,6 @@ eventWords g = kindAndBody (g .event) (g .taken)
 -- ---- what a call answers
 
 -- the words of what is given; a refusal leaves those that stood there
-abbrev pub put : {A C : Type 0} → (A → C) → Said A → C → C
-put words (refused n) old = old
-put words (gives a) old = words a
+abbrev pub orOld : {A C : Type 0} → (A → C) → Result A → C → C
+orOld words (refused n) old = old
+orOld words (gives a) old = words a

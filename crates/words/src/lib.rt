@@ -10,8 +10,8 @@ use rules::Settings;
 use rules::Started;
 use rules::Written;
 ghost use mathlib.Core.Path.{_≡_};
-ghost use Rattle.rules.specs.Answers.{numberOf, saidStarted, saidAnswer, saidPointed, saidPlotted, saidWritten};
-ghost use Rattle.words.specs.Words.{recordOf, wordsOf, replyWords, pointWords, plotWords, kindAndBody, put};
+ghost use Rattle.rules.specs.Answers.{numberOf, startedResult, replyResult, pointResult, plotResult, writtenResult};
+ghost use Rattle.words.specs.Words.{recordOf, wordsOf, replyWords, pointWords, plotWords, kindAndBody, orOld};
 
 // ---- the record
 
@@ -37,19 +37,19 @@ pub fn record_of(words: [u64; 9]) -> Record
 }
 
 // A record's words.
-pub fn words_of(k: Record) -> [u64; 9]
-    ensures { λ r. ⌜ r ≡ wordsOf k ⌝ }
+pub fn words_of(kept: Record) -> [u64; 9]
+    ensures { λ r. ⌜ r ≡ wordsOf kept ⌝ }
 {
-    let s = k.settings;
-    let n = k.numbers;
+    let s = kept.settings;
+    let n = kept.numbers;
     [
         s.limit,
         s.start,
         s.width,
         s.buckets,
         s.hashing.kind,
-        k.threshold,
-        k.live,
+        kept.threshold,
+        kept.live,
         n.references,
         n.sampled,
     ]
@@ -57,17 +57,17 @@ pub fn words_of(k: Record) -> [u64; 9]
 
 // The record's words after a start.
 pub fn started_words(answer: Started, old: [u64; 9]) -> [u64; 9]
-    ensures { λ r. ⌜ r ≡ put wordsOf (saidStarted answer) old ⌝ }
+    ensures { λ r. ⌜ r ≡ orOld wordsOf (startedResult answer) old ⌝ }
 {
     match answer {
-        Started::Ready(k) => words_of(k),
+        Started::Ready(kept) => words_of(kept),
         Started::Refused(_) => old,
     }
 }
 
 // The record's words after a reference.
 pub fn kept_words(answer: Answer, kept: Record, old: [u64; 9]) -> [u64; 9]
-    ensures { λ r. ⌜ r ≡ put (λ _. wordsOf kept) (saidAnswer answer) old ⌝ }
+    ensures { λ r. ⌜ r ≡ orOld (λ _. wordsOf kept) (replyResult answer) old ⌝ }
 {
     match answer {
         Answer::Skipped => words_of(kept),
@@ -81,7 +81,7 @@ pub fn kept_words(answer: Answer, kept: Record, old: [u64; 9]) -> [u64; 9]
 
 // A reference: 0 Skipped, 1 Again with the place, 2 First.
 pub fn answer_words(answer: Answer, old: [u64; 2]) -> [u64; 2]
-    ensures { λ r. ⌜ r ≡ put replyWords (saidAnswer answer) old ⌝ }
+    ensures { λ r. ⌜ r ≡ orOld replyWords (replyResult answer) old ⌝ }
 {
     match answer {
         Answer::Skipped => [0, 0],
@@ -93,7 +93,7 @@ pub fn answer_words(answer: Answer, old: [u64; 2]) -> [u64; 2]
 
 // A point: its size, hits, misses and total.
 pub fn point_words(answer: Pointed, old: [u64; 4]) -> [u64; 4]
-    ensures { λ r. ⌜ r ≡ put pointWords (saidPointed answer) old ⌝ }
+    ensures { λ r. ⌜ r ≡ orOld pointWords (pointResult answer) old ⌝ }
 {
     match answer {
         Pointed::At(p) => [p.size, p.hits, p.misses, p.total],
@@ -103,7 +103,7 @@ pub fn point_words(answer: Pointed, old: [u64; 4]) -> [u64; 4]
 
 // The same point as a pair of doubles: the size, and misses divided by total.
 pub fn plot_words(answer: Plotted, old: [f64; 2]) -> [f64; 2]
-    ensures { λ r. ⌜ r ≡ put plotWords (saidPlotted answer) old ⌝ }
+    ensures { λ r. ⌜ r ≡ orOld plotWords (plotResult answer) old ⌝ }
 {
     match answer {
         Plotted::At(p) => [p.size, p.ratio],
@@ -135,7 +135,7 @@ pub fn event_words(event: Event, taken: usize) -> [u64; 7]
 // ---- 0 when accepted, or the refusal's number
 
 pub fn number_started(answer: Started) -> u64
-    ensures { λ r. ⌜ r ≡ numberOf (saidStarted answer) ⌝ }
+    ensures { λ r. ⌜ r ≡ numberOf (startedResult answer) ⌝ }
 {
     match answer {
         Started::Ready(_) => 0,
@@ -144,7 +144,7 @@ pub fn number_started(answer: Started) -> u64
 }
 
 pub fn number_answered(answer: Answer) -> u64
-    ensures { λ r. ⌜ r ≡ numberOf (saidAnswer answer) ⌝ }
+    ensures { λ r. ⌜ r ≡ numberOf (replyResult answer) ⌝ }
 {
     match answer {
         Answer::Skipped => 0,
@@ -155,7 +155,7 @@ pub fn number_answered(answer: Answer) -> u64
 }
 
 pub fn number_pointed(answer: Pointed) -> u64
-    ensures { λ r. ⌜ r ≡ numberOf (saidPointed answer) ⌝ }
+    ensures { λ r. ⌜ r ≡ numberOf (pointResult answer) ⌝ }
 {
     match answer {
         Pointed::At(_) => 0,
@@ -164,7 +164,7 @@ pub fn number_pointed(answer: Pointed) -> u64
 }
 
 pub fn number_plotted(answer: Plotted) -> u64
-    ensures { λ r. ⌜ r ≡ numberOf (saidPlotted answer) ⌝ }
+    ensures { λ r. ⌜ r ≡ numberOf (plotResult answer) ⌝ }
 {
     match answer {
         Plotted::At(_) => 0,
@@ -173,7 +173,7 @@ pub fn number_plotted(answer: Plotted) -> u64
 }
 
 pub fn number_written(answer: Written) -> u64
-    ensures { λ r. ⌜ r ≡ numberOf (saidWritten answer) ⌝ }
+    ensures { λ r. ⌜ r ≡ numberOf (writtenResult answer) ⌝ }
 {
     match answer {
         Written::Filled(_) => 0,

@@ -4,11 +4,13 @@ use Prim.Native.Nat.{ℕ}
 use mathlib.Core.List.{List}
 use Rattle.rules.specs.declared.Event.{Event}
 use Rattle.rules.specs.declared.Written.{Written}
-use Rattle.rules.specs.Events.{writeOf, afterWritten}
+use Rattle.rules.specs.Answers.{writtenResult}
+use Rattle.rules.specs.Order.{outcome}
+use Rattle.rules.specs.Events.{writeOf}
 use Rattle.rules.proofs.Answers.{written-injective}
 
 pub write-once : (event : Event) (buffer : List ℕ) (a b : Written) (afterA afterB : List ℕ)
-    → afterWritten a afterA ≡ writeOf event buffer → afterWritten b afterB ≡ writeOf event buffer → (a ≡ b) × (afterA ≡ afterB)
+    → outcome (writtenResult a) afterA ≡ writeOf event buffer → outcome (writtenResult b) afterB ≡ writeOf event buffer → (a ≡ b) × (afterA ≡ afterB)
 write-once event buffer a b afterA afterB p q =
     let k = p ∙ sym q in
-    (written-injective a b (ap (λ z. z .said) k), ap (λ z. z .buffer) k)
+    (written-injective a b (ap (λ z. z .result) k), ap (λ z. z .left) k)

@@ -3,10 +3,12 @@ ghost use mathlib.Core.Path.{_≡_};
 ghost use Prim.Native.Nat.{_+_, _≤_};
 ghost use lib.ListN.{length};
 ghost use lib.Seq.{sets};
-ghost use Rattle.rules.specs.Events.{bytesOf, eventBytes, eventLength, writeOf, afterWritten};
-use rules::Body;
+ghost use Rattle.rules.specs.Answers.{writtenResult};
+ghost use Rattle.rules.specs.Order.{outcome};
+ghost use Rattle.rules.specs.Events.{bytesOf, eventBytes, eventLength, writeOf};
 use rules::Event;
 use rules::Refusal;
+use rules::SetupBody;
 use rules::Written;
 
 // A number's bytes put from a place on: one, two, four, eight of them.
@@ -65,7 +67,7 @@ fn put_restart(buffer: &mut [u8])
     put_one(buffer, 0, 3);
 }
 
-fn put_setup(buffer: &mut [u8], body: Body)
+fn put_setup(buffer: &mut [u8], body: SetupBody)
     requires { ⌜ 18 ≤ length (now buffer) ⌝ }
     ensures { λ _. ⌜ now (buffer .exit) ≡ sets (now (buffer .entry)) 0 (eventBytes (Event.Setup body)) ⌝ }
 {
@@ -106,7 +108,7 @@ fn size(event: Event) -> usize
 
 // Fills exactly the event's length from the front of the buffer, and answers that length.
 pub fn write(event: Event, buffer: &mut [u8]) -> Written
-    ensures { λ r. ⌜ afterWritten r (now (buffer .exit)) ≡ writeOf event (now (buffer .entry)) ⌝ }
+    ensures { λ r. ⌜ outcome (writtenResult r) (now (buffer .exit)) ≡ writeOf event (now (buffer .entry)) ⌝ }
 {
     let filled = size(event);
     if buffer.len() < filled {

@@ -3,8 +3,8 @@ use borrow.Author.Needs.{needs}
 use Rattle.apply.proofs.apply.Statement.{statement}
 use Rattle.apply.proofs.apply.Tie as tie
 
-asked-by-requires : tie.Need-asked-by-requires
-asked-by-requires c κs = search needs
+call-of-requires : tie.Need-call-of-requires
+call-of-requires c κs = search needs
 
 enum-told : tie.Need-enum-told
 enum-told c = search needs
@@ -37,7 +37,7 @@ started-over-requires-2 : tie.Need-started-over-requires-2
 started-over-requires-2 c κs = search needs
 
 returns : tie.Need-returns
-returns c = apply-nothing _ _ (c .before .before .asked-by .result) (c .before .before .asked-by .ensures) (c .enum-told .given .1)
+returns c = apply-nothing _ _ (c .before .before .call-of .result) (c .before .before .call-of .ensures) (c .enum-told .given .1)
 
 same-length : tie.Need-same-length
 same-length c = search needs
@@ -49,7 +49,7 @@ same-length-3 : tie.Need-same-length-3
 same-length-3 c = search needs
 
 returns-2 : tie.Need-returns-2
-returns-2 c = rw (c .taken .ensures) (apply-reference _ _ (c .before .before .before .before .before .before .before .before .before .before .before .before .before .before .asked-by .result) (c .before .before .before .before .before .before .before .before .before .before .before .before .before .before .asked-by .ensures) _ _ _ _ (c .before .before .before .before .before .before .before .refer .result) (c .before .before .before .before .before .before .before .before .before .before .before .before .location .given .1) (c .before .before .before .before .before .before .before .refer .ensures))
+returns-2 c = rw (c .taken .ensures) (apply-reference _ _ (c .before .before .before .before .before .before .before .before .before .before .before .before .before .before .call-of .result) (c .before .before .before .before .before .before .before .before .before .before .before .before .before .before .call-of .ensures) _ _ _ _ (c .before .before .before .before .before .before .before .refer .result) (c .before .before .before .before .before .before .before .before .before .before .before .before .location .given .1) (c .before .before .before .before .before .before .before .refer .ensures))
 
 same-length-4 : tie.Need-same-length-4
 same-length-4 c = search needs
@@ -61,7 +61,7 @@ same-length-6 : tie.Need-same-length-6
 same-length-6 c = search needs
 
 returns-3 : tie.Need-returns-3
-returns-3 c = rw (c .started-over .ensures) (apply-restart _ _ (c .before .before .before .before .before .before .before .before .before .before .before .asked-by .result) (c .before .before .before .before .before .before .before .before .before .before .before .asked-by .ensures) _ _ _ (c .before .before .before .before .before .restart .result) (c .before .before .before .before .before .before .before .before .before .enum-told2 .given .1) (c .before .before .before .before .before .restart .ensures))
+returns-3 c = rw (c .started-over .ensures) (apply-restart _ _ (c .before .before .before .before .before .before .before .before .before .before .before .call-of .result) (c .before .before .before .before .before .before .before .before .before .before .before .call-of .ensures) _ _ _ (c .before .before .before .before .before .restart .result) (c .before .before .before .before .before .before .before .before .before .enum-told2 .given .1) (c .before .before .before .before .before .restart .ensures))
 
 same-length-7 : tie.Need-same-length-7
 same-length-7 c = search needs
@@ -73,13 +73,13 @@ same-length-9 : tie.Need-same-length-9
 same-length-9 c = search needs
 
 returns-4 : tie.Need-returns-4
-returns-4 c = rw (c .started-over2 .ensures) (apply-setup _ _ (c .before .before .before .before .before .before .before .before .before .before .before .before .asked-by .result) (c .before .before .before .before .before .before .before .before .before .before .before .before .asked-by .ensures) _ _ _ _ (c .before .before .before .before .before .setup .result) (c .before .before .before .before .before .before .before .before .before .before .settings .given .1) (c .before .before .before .before .before .setup .ensures))
+returns-4 c = rw (c .started-over2 .ensures) (apply-setup _ _ (c .before .before .before .before .before .before .before .before .before .before .before .before .call-of .result) (c .before .before .before .before .before .before .before .before .before .before .before .before .call-of .ensures) _ _ _ _ (c .before .before .before .before .before .setup .result) (c .before .before .before .before .before .before .before .before .before .before .settings .given .1) (c .before .before .before .before .before .setup .ensures))
 
 pub apply-spec : {M : Type 1} → statement M
 apply-spec =
     tie.close
     (tie.spec
-    asked-by-requires
+    call-of-requires
     enum-told
     enum-known-location
     refer-requires

@@ -3,7 +3,7 @@ use native.Mathlib.Omega.{arith}
 use Prim.Native.Nat.{_+_, _<_, _^_}
 use mathlib.Core.Path.{_≡_, refl, sym, _∙_}
 use lib.ListN.{length, take}
-use Rattle.rules.specs.Layout.{held}
+use Rattle.rules.specs.Layout.{tracker}
 use Rattle.curve.specs.Program.{Follows}
 use Rattle.curve.proofs.Input.{follows-none}
 use Rattle.curve.proofs.follow.Statement.{statement}
@@ -13,7 +13,7 @@ abbrev Inv-loop : tie.InvT-loop
 Inv-loop buffer₀ locations₀ counts₀ thresholds₀ p₀ buffer locations counts thresholds p =
     (length buffer ≡ 65536) × (length locations ≡ length locations₀) × (length counts ≡ length counts₀) × (length thresholds ≡ length thresholds₀)
     × (p .left < 18) × (p .place + p .reach < 2 ^ 64)
-    × Follows (held (p₀ .kept) locations₀ counts₀ thresholds₀) (p .place) (held (p .kept) locations counts thresholds) (take (p .left) buffer)
+    × Follows (tracker (p₀ .kept) locations₀ counts₀ thresholds₀) (p .place) (tracker (p .kept) locations counts thresholds) (take (p .left) buffer)
 
 abbrev μ-loop : tie.MeasureT-loop
 μ-loop buffer₀ locations₀ counts₀ thresholds₀ p₀ buffer locations counts thresholds p =

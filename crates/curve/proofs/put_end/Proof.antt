@@ -21,7 +21,7 @@ same-length-2 : tie.Need-same-length-2
 same-length-2 c = c .before .before .put-curve .kept .0
 
 returns-2 : tie.Need-returns-2
-returns-2 c = rw (le-ltb 0 _ (c .before .before .before .before .if1 .left)) (curve-stands (c .before .before .before .before .before .before .before .before .args .out .now) _ _ (c .before .before .before .before .before .before .before .before .args .k) (bucketsOf (c .before .before .before .before .before .before .before .before .args .counts .now) (c .before .before .before .before .before .before .before .before .args .thresholds .now)) (c .before .before .before .before .before .before .before .before .pre .1) (c .before .before .before .before .before .before .before .before .pre .0) (c .before .before .put-curve .ensures))
+returns-2 c = rw (le-ltb 0 _ (c .before .before .before .before .if1 .left)) (curve-stands (c .before .before .before .before .before .before .before .before .args .out .now) _ _ (c .before .before .before .before .before .before .before .before .args .kept) (bucketsOf (c .before .before .before .before .before .before .before .before .args .counts .now) (c .before .before .before .before .before .before .before .before .args .thresholds .now)) (c .before .before .before .before .before .before .before .before .pre .1) (c .before .before .before .before .before .before .before .before .pre .0) (c .before .before .put-curve .ensures))
 
 pub put-end-spec : {M : Type 1} → statement M
 put-end-spec =

@@ -1,6 +1,6 @@
 use mathlib.Core.Path.{refl, _∙_}
 use native.Mathlib.Omega.{arith}
-use Rattle.curve.proofs.Input.{refused-stands, begun, not-begun}
+use Rattle.curve.proofs.Input.{refused-stands, telling-started, telling-refused}
 use borrow.Author.Needs.{needs}
 use Rattle.curve.proofs.run.Statement.{statement}
 use Rattle.curve.proofs.run.Tie as tie
@@ -11,8 +11,8 @@ first-settings-requires c κs = tt
 setup-requires : tie.Need-setup-requires
 setup-requires c κs = tt
 
-enum-known-k : tie.Need-enum-known-k
-enum-known-k c = search needs
+enum-known-kept : tie.Need-enum-known-kept
+enum-known-kept c = search needs
 
 follow-requires : tie.Need-follow-requires
 follow-requires c κs = (c .before .before .before .before .before .before .before .before .before .before .before .before .before .before .before .before .before .before .before .before .pre .0, omega (arith, c .before .before .before .before .before .before .before .before .before .before .before .setup .kept .1 .1 .0, c .before .before .before .before .before .before .before .before .before .before .before .before .before .before .before .before .before .before .before .before .pre .1))
@@ -39,7 +39,7 @@ same-length-4 : tie.Need-same-length-4
 same-length-4 c = c .before .before .before .before .before .before .before .before .follow .kept .1 .1 .1 .1 .0 ∙ c .before .before .before .before .before .before .before .before .before .before .before .before .before .before .before .before .before .before .before .before .setup .kept .1 .1 .1 .0
 
 returns : tie.Need-returns
-returns c = begun _ _ _ (c .before .before .before .before .before .before .before .before .follow .result) (c .before .before .before .before .before .before .before .before .follow .last .1 .0) (rw (c .before .before .before .before .before .before .before .before .before .before .before .before .before .before .k .given .1, c .before .before .before .before .before .before .before .before .before .before .before .before .before .before .before .before .before .before .before .before .before .before .before .before .first-settings .ensures) at (c .before .before .before .before .before .before .before .before .before .before .before .before .before .before .before .before .before .before .before .before .setup .ensures)) (c .before .before .before .before .before .before .before .before .follow .ensures)
+returns c = telling-started _ _ _ (c .before .before .before .before .before .before .before .before .follow .result) (c .before .before .before .before .before .before .before .before .follow .last .1 .0) (rw (c .before .before .before .before .before .before .before .before .before .before .before .before .before .before .kept .given .1, c .before .before .before .before .before .before .before .before .before .before .before .before .before .before .before .before .before .before .before .before .before .before .before .before .first-settings .ensures) at (c .before .before .before .before .before .before .before .before .before .before .before .before .before .before .before .before .before .before .before .before .setup .ensures)) (c .before .before .before .before .before .before .before .before .follow .ensures)
 
 same-length-5 : tie.Need-same-length-5
 same-length-5 c = c .before .before .put-refused-line .kept .0
@@ -56,7 +56,7 @@ same-length-8 c = c .before .before .before .before .before .before .before .bef
 returns-2 : tie.Need-returns-2
 returns-2 c =
     let number = c .before .before .before .number-of .ensures in
-    not-begun _ _ _ (rw (c .before .before .before .before .before .before .why .given .1, c .before .before .before .before .before .before .before .before .before .before .before .before .before .before .before .before .first-settings .ensures) at (c .before .before .before .before .before .before .before .before .before .before .before .before .setup .ensures)) (rw number at (refused-stands (c .before .before .before .before .before .before .before .before .before .before .before .before .before .before .before .before .before .before .before .before .before .args .buffer .now) _ _ _ _ (omega (arith, c .before .before .before .before .before .before .before .before .before .before .before .before .before .before .before .before .before .before .before .before .before .pre .0)) (c .before .before .put-refused-line .ensures)))
+    telling-refused _ _ _ (rw (c .before .before .before .before .before .before .why .given .1, c .before .before .before .before .before .before .before .before .before .before .before .before .before .before .before .before .first-settings .ensures) at (c .before .before .before .before .before .before .before .before .before .before .before .before .setup .ensures)) (rw number at (refused-stands (c .before .before .before .before .before .before .before .before .before .before .before .before .before .before .before .before .before .before .before .before .before .args .buffer .now) _ _ _ _ (omega (arith, c .before .before .before .before .before .before .before .before .before .before .before .before .before .before .before .before .before .before .before .before .before .pre .0)) (c .before .before .put-refused-line .ensures)))
 
 pub run-spec : {M : Type 1} → statement M
 run-spec =
@@ -64,7 +64,7 @@ run-spec =
     (tie.spec
     first-settings-requires
     setup-requires
-    enum-known-k
+    enum-known-kept
     follow-requires
     enum-known-why
     number-of-requires

@@ -1,5 +1,5 @@
 use mathlib.Core.Path.{sym, ap, _∙_}
-use Rattle.rules.specs.Answers.{saidReading}
+use Rattle.rules.specs.Answers.{readingResult}
 use Rattle.words.specs.Words.{eventWords}
 use Rattle.driver.proofs.Laws.{given-into, refused-into}
 use borrow.Author.Needs.{needs}
@@ -22,10 +22,10 @@ number-of-requires : tie.Need-number-of-requires
 number-of-requires c κs = tt
 
 returns : tie.Need-returns
-returns c = given-into eventWords _ _ (sym (c .before .before .before .before .read .ensures) ∙ ap saidReading (c .before .before .e .given .1)) (c .event-words .ensures)
+returns c = given-into eventWords _ _ (sym (c .before .before .before .before .read .ensures) ∙ ap readingResult (c .before .before .e .given .1)) (c .event-words .ensures)
 
 returns-2 : tie.Need-returns-2
-returns-2 c = refused-into eventWords _ _ (sym (c .before .before .before .before .read .ensures) ∙ ap saidReading (c .before .before .why .given .1)) (c .number-of .ensures)
+returns-2 c = refused-into eventWords _ _ (sym (c .before .before .before .before .read .ensures) ∙ ap readingResult (c .before .before .why .given .1)) (c .number-of .ensures)
 
 pub rockgingham-read-spec : {M : Type 1} → statement M
 rockgingham-read-spec =

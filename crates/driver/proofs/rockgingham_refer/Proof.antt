@@ -1,5 +1,5 @@
 use mathlib.Core.Path.{ap}
-use Rattle.rules.specs.Answers.{saidAnswer}
+use Rattle.rules.specs.Answers.{replyResult}
 use Rattle.driver.proofs.Laws.{stepped-is, unstepped}
 use borrow.Author.Needs.{needs}
 use Rattle.driver.proofs.rockgingham_refer.Statement.{statement}
@@ -11,8 +11,8 @@ record-of-requires c κs = tt
 refer-requires : tie.Need-refer-requires
 refer-requires c κs = tt
 
-enum-known-said : tie.Need-enum-known-said
-enum-known-said c = search needs
+enum-known-reply : tie.Need-enum-known-reply
+enum-known-reply c = search needs
 
 number-of-requires : tie.Need-number-of-requires
 number-of-requires c κs = tt
@@ -27,7 +27,7 @@ same-length-3 : tie.Need-same-length-3
 same-length-3 c = c .before .before .before .before .before .before .before .before .before .before .before .refer .kept .1 .1 .1 .1 .0
 
 returns : tie.Need-returns
-returns c = unstepped _ _ (rw (c .before .before .before .before .before .before .before .before .before .before .before .before .before .before .before .record-of .ensures) at (c .before .before .before .before .before .before .before .before .before .before .before .refer .ensures)) (ap saidAnswer (c .before .before .said .given .1)) (c .number-of .ensures)
+returns c = unstepped _ _ (rw (c .before .before .before .before .before .before .before .before .before .before .before .before .before .before .before .record-of .ensures) at (c .before .before .before .before .before .before .before .before .before .before .before .refer .ensures)) (ap replyResult (c .before .before .reply .given .1)) (c .number-of .ensures)
 
 kept-words-requires : tie.Need-kept-words-requires
 kept-words-requires c κs = tt
@@ -56,7 +56,7 @@ rockgingham-refer-spec =
     (tie.spec
     record-of-requires
     refer-requires
-    enum-known-said
+    enum-known-reply
     number-of-requires
     same-length
     same-length-2

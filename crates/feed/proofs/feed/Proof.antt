@@ -4,10 +4,10 @@ use Prim.Native.Nat.{_-_, _≤_, _<_}
 use mathlib.Core.Path.{_≡_, refl, sym, ap, _∙_}
 use lib.ListN.{length, drop}
 use denote.Ref.{now}
-use Rattle.rules.specs.Answers.{gives, Got, saidReading}
+use Rattle.rules.specs.Answers.{gives, Got, readingResult}
 use Rattle.rules.specs.Events.{readOf}
-use Rattle.rules.specs.Layout.{held}
-use Rattle.trace.proofs.Laws.{from-place}
+use Rattle.rules.specs.Layout.{tracker}
+use Rattle.reading.proofs.Laws.{from-place}
 use Rattle.feed.proofs.Loop.{Going, going-none, at-end, at-unread, ahead, at-refused, goes-on}
 use Rattle.feed.proofs.feed.Statement.{statement}
 use Rattle.feed.proofs.feed.Tie as tie
@@ -15,14 +15,14 @@ use Rattle.feed.proofs.feed.Tie as tie
 abbrev Inv-loop : tie.InvT-loop
 Inv-loop bytes locations₀ counts₀ thresholds₀ at₀ kept₀ locations counts thresholds at kept =
     (length locations ≡ length locations₀) × (length counts ≡ length counts₀) × (length thresholds ≡ length thresholds₀)
-    × Going bytes (held kept₀ locations₀ counts₀ thresholds₀) at (held kept locations counts thresholds)
+    × Going bytes (tracker kept₀ locations₀ counts₀ thresholds₀) at (tracker kept locations counts thresholds)
 
 abbrev μ-loop : tie.MeasureT-loop
 μ-loop bytes locations₀ counts₀ thresholds₀ at₀ kept₀ locations counts thresholds at kept =
     length bytes - at
 
 -- what the call of `read` found at the place
-found : (d : tie.After-read Inv-loop μ-loop) → saidReading (d .read .result) ≡ readOf (drop (d .before .before .before .loop .at) (now (d .before .before .before .before .before .before .before .before .args .bytes)))
+found : (d : tie.After-read Inv-loop μ-loop) → readingResult (d .read .result) ≡ readOf (drop (d .before .before .before .loop .at) (now (d .before .before .before .before .before .before .before .before .args .bytes)))
 found d =
     let bytes = now (d .before .before .before .before .before .before .before .before .args .bytes) in
     let at = d .before .before .before .loop .at in
@@ -32,7 +32,7 @@ abbrev got : tie.After-event Inv-loop μ-loop → Got
 got d = record { event = d .event .given .0 .0; taken = d .event .given .0 .1 .0 }
 
 found-event : (d : tie.After-event Inv-loop μ-loop) → readOf (drop (d .before .before .before .before .before .loop .at) (now (d .before .before .before .before .before .before .before .before .before .before .args .bytes))) ≡ gives (got d)
-found-event d = sym (found (d .before .before)) ∙ ap saidReading (d .event .given .1)
+found-event d = sym (found (d .before .before)) ∙ ap readingResult (d .event .given .1)
 
 on : (d : tie.After-event Inv-loop μ-loop) → (0 < d .event .given .0 .1 .0) × (d .event .given .0 .1 .0 ≤ length (now (d .before .before .before .before .before .before .before .before .before .before .args .bytes)) - d .before .before .before .before .before .loop .at)
 on d = ahead (d .before .before .before .before .before .loop .inv .3) (search needs) (got d) (found-event d)
@@ -93,8 +93,8 @@ loop-again c =
 enum-known-why : tie.Need-enum-known-why Inv-loop μ-loop
 enum-known-why c = search needs
 
-unread-for-requires : tie.Need-unread-for-requires Inv-loop μ-loop
-unread-for-requires c κs = search needs
+unreadable-requires : tie.Need-unreadable-requires Inv-loop μ-loop
+unreadable-requires c κs = search needs
 
 same-length-4 : tie.Need-same-length-4 Inv-loop μ-loop
 same-length-4 c = search needs
@@ -108,7 +108,7 @@ same-length-6 c = search needs
 returns-2 : tie.Need-returns-2 Inv-loop μ-loop
 returns-2 c =
     let head = c .before .before .before .before .before .before .before .loop in
-    rw (c .unread-for .ensures) (at-unread (head .inv .3) (search needs) _ (sym (found (c .before .before .before .before)) ∙ ap saidReading (c .before .before .why .given .1)))
+    rw (c .unreadable .ensures) (at-unread (head .inv .3) (search needs) _ (sym (found (c .before .before .before .before)) ∙ ap readingResult (c .before .before .why .given .1)))
 
 same-length-7 : tie.Need-same-length-7 Inv-loop μ-loop
 same-length-7 c = search needs
@@ -145,7 +145,7 @@ feed-spec =
     loop-less
     loop-again
     enum-known-why
-    unread-for-requires
+    unreadable-requires
     same-length-4
     same-length-5
     same-length-6

@@ -1,7 +1,7 @@
 use native.Mathlib.Omega.{arith}
 use mathlib.Core.Path.{sym, ap, _∙_}
 use borrow.Author.Tests.{lt-ltb}
-use Rattle.rules.specs.Answers.{saidReported}
+use Rattle.rules.specs.Answers.{reportResult}
 use Rattle.rules.proofs.Bounds.{whole}
 use Rattle.rules.proofs.Calls.{point-torn, point-short, point-stale, point-number}
 use Rattle.points.proofs.CurvePoints.{from-torn, from-sums, sums-ordered}
@@ -44,16 +44,16 @@ enum-known-sums c = search needs
 
 point-of-requires : tie.Need-point-of-requires
 point-of-requires c κs = let w = whole _ (sym (c .before .before .before .before .before .before .before .before .before .before .before .before .before .before .torn .ensures) ∙ c .before .before .before .before .before .before .before .before .before .before .before .before .before .if1 .left) in
-    (omega (arith, w .range .buckets-high, c .before .before .before .before .before .before .if4 .left), w .range .width-high, sums-ordered _ _ _ _ (sym (c .before .before .before .before .before .before .before .before .before .before .before .before .before .before .torn .ensures) ∙ c .before .before .before .before .before .before .before .before .before .before .before .before .before .if1 .left) (sym (c .before .before .before .before .before .before .before .before .before .before .before .buckets-too-short .ensures) ∙ c .before .before .before .before .before .before .before .before .before .before .if2 .left) (sym (c .before .before .before .before .before .before .before .before .before .is-stale .ensures) ∙ c .before .before .before .before .before .before .before .before .if3 .left) (c .before .before .before .before .before .before .if4 .left) _ (ap saidReported (sym (c .before .sums .given .1)) ∙ c .before .before .before .report .ensures))
+    (omega (arith, w .range .buckets-high, c .before .before .before .before .before .before .if4 .left), w .range .width-high, sums-ordered _ _ _ _ (sym (c .before .before .before .before .before .before .before .before .before .before .before .before .before .before .torn .ensures) ∙ c .before .before .before .before .before .before .before .before .before .before .before .before .before .if1 .left) (sym (c .before .before .before .before .before .before .before .before .before .before .before .buckets-too-short .ensures) ∙ c .before .before .before .before .before .before .before .before .before .before .if2 .left) (sym (c .before .before .before .before .before .before .before .before .before .is-stale .ensures) ∙ c .before .before .before .before .before .before .before .before .if3 .left) (c .before .before .before .before .before .before .if4 .left) _ (ap reportResult (sym (c .before .sums .given .1)) ∙ c .before .before .before .report .ensures))
 
 enum-told : tie.Need-enum-told
 enum-told c = search needs
 
 returns-5 : tie.Need-returns-5
-returns-5 c = c .point-of .ensures ∙ from-sums _ _ _ _ (sym (c .before .before .before .before .before .before .before .before .before .before .before .before .before .before .before .torn .ensures) ∙ c .before .before .before .before .before .before .before .before .before .before .before .before .before .before .if1 .left) (sym (c .before .before .before .before .before .before .before .before .before .before .before .before .buckets-too-short .ensures) ∙ c .before .before .before .before .before .before .before .before .before .before .before .if2 .left) (sym (c .before .before .before .before .before .before .before .before .before .before .is-stale .ensures) ∙ c .before .before .before .before .before .before .before .before .before .if3 .left) (c .before .before .before .before .before .before .before .if4 .left) _ (ap saidReported (sym (c .before .before .sums .given .1)) ∙ c .before .before .before .before .report .ensures)
+returns-5 c = c .point-of .ensures ∙ from-sums _ _ _ _ (sym (c .before .before .before .before .before .before .before .before .before .before .before .before .before .before .before .torn .ensures) ∙ c .before .before .before .before .before .before .before .before .before .before .before .before .before .before .if1 .left) (sym (c .before .before .before .before .before .before .before .before .before .before .before .before .buckets-too-short .ensures) ∙ c .before .before .before .before .before .before .before .before .before .before .before .if2 .left) (sym (c .before .before .before .before .before .before .before .before .before .before .is-stale .ensures) ∙ c .before .before .before .before .before .before .before .before .before .if3 .left) (c .before .before .before .before .before .before .before .if4 .left) _ (ap reportResult (sym (c .before .before .sums .given .1)) ∙ c .before .before .before .before .report .ensures)
 
 returns-6 : tie.Need-returns-6
-returns-6 c = from-torn _ _ _ _ (sym (c .before .before .before .before .before .before .before .before .before .before .before .before .before .torn .ensures) ∙ c .before .before .before .before .before .before .before .before .before .before .before .before .if1 .left) (sym (c .before .before .before .before .before .before .before .before .before .before .buckets-too-short .ensures) ∙ c .before .before .before .before .before .before .before .before .before .if2 .left) (sym (c .before .before .before .before .before .before .before .before .is-stale .ensures) ∙ c .before .before .before .before .before .before .before .if3 .left) (c .before .before .before .before .before .if4 .left) (ap saidReported (sym (c .enum-told .given .1)) ∙ c .before .before .report .ensures)
+returns-6 c = from-torn _ _ _ _ (sym (c .before .before .before .before .before .before .before .before .before .before .before .before .before .torn .ensures) ∙ c .before .before .before .before .before .before .before .before .before .before .before .before .if1 .left) (sym (c .before .before .before .before .before .before .before .before .before .before .buckets-too-short .ensures) ∙ c .before .before .before .before .before .before .before .before .before .if2 .left) (sym (c .before .before .before .before .before .before .before .before .is-stale .ensures) ∙ c .before .before .before .before .before .before .before .if3 .left) (c .before .before .before .before .before .if4 .left) (ap reportResult (sym (c .enum-told .given .1)) ∙ c .before .before .report .ensures)
 
 pub point-spec : {M : Type 1} → statement M
 point-spec =

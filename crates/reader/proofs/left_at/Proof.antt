@@ -4,7 +4,7 @@ use native.Mathlib.Omega.{arith}
 use lib.ListN.{length}
 use lib.Seq.{drop-length}
 use denote.Ref.{now}
-use Rattle.trace.proofs.Laws.{from-place}
+use Rattle.reading.proofs.Laws.{from-place}
 use Rattle.reader.proofs.Laws.{left-beyond}
 use Rattle.reader.proofs.left_at.Statement.{statement}
 use Rattle.reader.proofs.left_at.Tie as tie

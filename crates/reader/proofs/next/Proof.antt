@@ -4,13 +4,13 @@ use Rattle.reader.proofs.Walks.{_≡_, refl, ap, _<_, _^_, [], _∷_, H
 use denote.Struct.Laws as LL
 use Rattle.reader.specs.declared.Reader.{Reader}
 use Rattle.reader.specs.declared.Moved.{Moved}
-use Rattle.reader.specs.declared.Stepped.{Stepped}
-use Rattle.reader.specs.Reader.{stepAt, saidStepped}
+use Rattle.reader.specs.declared.Advanced.{Advanced}
+use Rattle.reader.specs.Reader.{stepAt, advancedResult}
 use Rattle.reader.proofs.Reader.Laws as T′
 use Rattle.reader.proofs.Moved as N
 use Rattle.reader.proofs.Moved.Laws as N′
-use Rattle.reader.proofs.Stepped as S
-use Rattle.reader.proofs.Stepped.Laws as S′
+use Rattle.reader.proofs.Advanced as S
+use Rattle.reader.proofs.Advanced.Laws as S′
 use Rattle.reader.proofs.step_at as step-at
 use Rattle.reader.proofs.step_at.Symbol as step-at-def
 use Rattle.reader.proofs.step_at.Symbol.{name as #step-at}
@@ -29,10 +29,10 @@ mid = step-at.signature .result
 
 -- what the callee says of its answer
 abbrev ψ : Fact (OverBytes mid)
-ψ κs a r = saidStepped r ≡ stepAt (now (a .0)) (a .1 .0)
+ψ κs a r = advancedResult r ≡ stepAt (now (a .0)) (a .1 .0)
 
 module _ {M : Type 1} (𝓤 : URA M) (H : Heap 𝓤) (A : Atoms 𝓤) (mem : Memory → SProp 𝓤) (run : Routine → Fun 𝓤) (W : Given 𝓤 H A) where
-  module _ (κ : Lft) (q : Share) (d : Reader) (are : Is (B (κ, tt)) d (T′.lowered d ∷ [])) (r : Stepped) (u : Val) (is : Is S.the-row r (u ∷ [])) where
+  module _ (κ : Lft) (q : Share) (d : Reader) (are : Is (B (κ, tt)) d (T′.lowered d ∷ [])) (r : Advanced) (u : Val) (is : Is S.the-row r (u ∷ [])) where
     -- the reader moved on, what is handed back, and its machine value
     abbrev on : Reader
     on = record { src = d .src; at = r .at }
@@ -53,7 +53,7 @@ module _ {M : Type 1} (𝓤 : URA M) (H : Heap 𝓤) (A : Atoms 𝓤) (mem : Mem
     leaves : ψ (κ, tt) (d .src, (d .at, tt)) r → ent 𝓤 (⋆ 𝓤 H A (‵ (S.the-row .own r (u ∷ [])) ∷ (‵ (flft κ q) ⊛ ‵ ftrue) ∷ ‵ (Own κ d) ∷ [])) (Post 𝓤 H A res (next.clauses 𝓤 H A mem run) κ q d tt w)
     leaves e =
         qed W (‵ (S.the-row .own r (u ∷ [])) ∷ (‵ (flft κ q) ⊛ ‵ ftrue) ∷ ‵ (Own κ d) ∷ []) ∵
-        suffices ! _ (exits 𝓤 H A res (next.clauses 𝓤 H A mem run) κ q d tt W made w (factI 𝓤 _ (emp 𝓤) (ap (λ z. record { said = z .said; reader = record { src = d .src; at = z .at } }) e))) $
+        suffices ! _ (exits 𝓤 H A res (next.clauses 𝓤 H A mem run) κ q d tt W made w (factI 𝓤 _ (emp 𝓤) (ap (λ z. record { result = z .result; reader = record { src = d .src; at = z .at } }) e))) $
         move ! (2 ∷ []) $ use1 W (‵ (Own κ d) ⊛ ‵ (Own κ d)) (copied 𝓤 H A κ q d W) $ split ! $
         -- [what the struct owns, twice; what the answer owns; the token]: the place's facts take the place of at's
         owned ! usize (Is usize) (uint-makes 𝓤 H A W w64) (r .at) _ (refl, fits) $ move ! (1 ∷ 0 ∷ []) $ use2 W (‵ (Own κ on)) (own-put 𝓤 H A W (D κ) (L κ) 1 (d .src, (d .at, tt)) (r .at) (T′.lowered d)) $

@@ -8,13 +8,13 @@ use Rattle.rules.proofs.Reading as R
 use Rattle.rules.proofs.Reading.Laws as R′
 use Rattle.reader.specs.declared.Reader.{Reader}
 use Rattle.reader.specs.declared.Moved.{Moved}
-use Rattle.reader.specs.declared.Stepped.{Stepped}
-use Rattle.reader.specs.Reader.{nextOf, saidMoved}
+use Rattle.reader.specs.declared.Advanced.{Advanced}
+use Rattle.reader.specs.Reader.{nextOf, movedResult}
 use Rattle.reader.proofs.Reader.Laws as T′
 use Rattle.reader.proofs.Moved as N
 use Rattle.reader.proofs.Moved.Laws as N′
-use Rattle.reader.proofs.Stepped as S
-use Rattle.reader.proofs.Stepped.Laws as S′
+use Rattle.reader.proofs.Advanced as S
+use Rattle.reader.proofs.Advanced.Laws as S′
 use Rattle.reader.proofs.next as next
 use Rattle.reader.proofs.next.Symbol as next-def
 use Rattle.reader.proofs.next.Symbol.{name as #next}
@@ -29,7 +29,7 @@ kept = (stay-none-slice (0 ∷ []) tt (plain (λ _. u8)) yes, (stay-none (λ _. 
 
 -- what the callee says of its answer
 abbrev ψ : Fact next.ended
-ψ κs a r = saidMoved r ≡ nextOf (a .0)
+ψ κs a r = movedResult r ≡ nextOf (a .0)
 
 module _ {M : Type 1} (𝓤 : URA M) (H : Heap 𝓤) (A : Atoms 𝓤) (mem : Memory → SProp 𝓤) (run : Routine → Fun 𝓤) (W : Given 𝓤 H A) (κ : Lft) (q : Share) (s : RefT (List ℕ)) (n : ℕ) (ok : n < 2 ^ 64) where
   abbrev y : walkOf 𝓤 H A step.ended kept (step.clauses 𝓤 H A mem run) .Ghost
@@ -60,7 +60,7 @@ module _ {M : Type 1} (𝓤 : URA M) (H : Heap 𝓤) (A : Atoms 𝓤) (mem : Mem
 
   module _ (r : Moved) (u : Val) (is : Is (N.the-row (α κ)) r (u ∷ [])) where
     -- the answer in plain data, and its machine value
-    abbrev made : Stepped
+    abbrev made : Advanced
     made = record { reading = r .reading; at = r .reader .at }
 
     abbrev w : Val
@@ -78,7 +78,7 @@ module _ {M : Type 1} (𝓤 : URA M) (H : Heap 𝓤) (A : Atoms 𝓤) (mem : Mem
     leaves : ψ (κ, tt) (d, tt) r → ent 𝓤 (⋆ 𝓤 H A (‵ (N.the-row (α κ) .own r (u ∷ [])) ∷ (‵ (flft κ q) ⊛ ‵ ftrue) ∷ ‵ Passed ∷ [])) (walkOf 𝓤 H A step.ended kept (step.clauses 𝓤 H A mem run) .post y w)
     leaves e =
         qed W (‵ (N.the-row (α κ) .own r (u ∷ [])) ∷ (‵ (flft κ q) ⊛ ‵ ftrue) ∷ ‵ Passed ∷ []) ∵
-        suffices ! _ (ends 𝓤 H A step.ended kept (step.clauses 𝓤 H A mem run) y W w made (tt, (tt, tt)) (tt, (tt, tt)) (factI 𝓤 _ (emp 𝓤) (ap (λ z. record { said = z .said; at = z .reader .at }) e))) $
+        suffices ! _ (ends 𝓤 H A step.ended kept (step.clauses 𝓤 H A mem run) y W w made (tt, (tt, tt)) (tt, (tt, tt)) (factI 𝓤 _ (emp 𝓤) (ap (λ z. record { result = z .result; at = z .reader .at }) e))) $
         move ! (1 ∷ []) $ frame ! $ move ! (1 ∷ []) $ frame ! $
         -- [what the answer owns]: the reading's part of it, and the place's facts
         use1 W (given (u ∷ [] ≡ LL.vals (N.the-type (α κ)) (N′.the-laws (α κ)) r) (‵ (all-own (N.the-type (α κ) .parts) (N′.the-laws (α κ)) (r .reading, (r .reader, tt))))) (own-open 𝓤 H A W (N.the-type (α κ)) (N′.the-laws (α κ)) (r .reading, (r .reader, tt)) u) $ learn ! (λ _. fsplit ! $ move ! (1 ∷ []) $ drop ! $

@@ -3,7 +3,7 @@ use mathlib.Core.Path.{_≡_, sym, ap, _∙_}
 use native.Mathlib.Omega.{arith}
 use lib.ListN.{length-drop}
 use denote.Ref.{now}
-use Rattle.rules.specs.Answers.{saidReading}
+use Rattle.rules.specs.Answers.{readingResult}
 use Rattle.rules.proofs.Events.{got, taken}
 use Rattle.reader.specs.Reader.{readAt}
 use Rattle.reader.proofs.step_at.Statement.{statement}
@@ -23,11 +23,11 @@ enum-told c = search needs
 
 -- the reading is the one at the place
 module _ (c : tie.After-read) where
-  at-place : readAt (now (c .before .before .before .args .bytes)) (c .before .before .before .args .at) ≡ saidReading (c .read .result)
+  at-place : readAt (now (c .before .before .before .args .bytes)) (c .before .before .before .args .at) ≡ readingResult (c .read .result)
   at-place = rw (← c .before .left-at .ensures) (sym (c .read .ensures))
 
 is-got : (c : tie.After-known-told) → readAt (now (c .before .before .before .before .before .before .args .bytes)) (c .before .before .before .before .before .before .args .at) ≡ got (c .before .reading .given .0 .0) (c .before .reading .given .0 .1 .0)
-is-got c = at-place (c .before .before .before) ∙ ap saidReading (c .before .reading .given .1)
+is-got c = at-place (c .before .before .before) ∙ ap readingResult (c .before .reading .given .1)
 
 add-t7 : tie.Need-add-t7
 add-t7 c = record { fits = omega (arith, simp length-drop at (taken _ (is-got c))) }

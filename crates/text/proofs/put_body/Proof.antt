@@ -1,6 +1,6 @@
 use native.Mathlib.Omega.{arith}
 use mathlib.Core.Path.{refl, sym, ap, _∙_}
-use Rattle.rules.specs.Answers.{saidPointed}
+use Rattle.rules.specs.Answers.{pointResult}
 use Rattle.text.proofs.Laws.{adds-then, point-needed}
 use borrow.Author.Needs.{needs}
 use Rattle.text.proofs.put_body.Statement.{statement}
@@ -13,7 +13,7 @@ enum-told : tie.Need-enum-told
 enum-told c = search needs
 
 put-points-requires : tie.Need-put-points-requires
-put-points-requires c κs = (search needs, omega (arith, point-needed (c .before .before .before .before .before .before .before .args .k) 0 _ (sym (c .before .before .before .point-at .ensures) ∙ ap saidPointed (c .before .enum-told .given .1)), c .before .before .before .before .before .before .before .pre), search needs)
+put-points-requires c κs = (search needs, omega (arith, point-needed (c .before .before .before .before .before .before .before .args .kept) 0 _ (sym (c .before .before .before .point-at .ensures) ∙ ap pointResult (c .before .enum-told .given .1)), c .before .before .before .before .before .before .before .pre), search needs)
 
 slice-aggregate-put : tie.Need-slice-aggregate-put
 slice-aggregate-put c = refl
@@ -34,13 +34,13 @@ same-length : tie.Need-same-length
 same-length c = c .before .before .put .kept .0 ∙ c .before .before .before .before .before .before .before .put-points .kept .0
 
 returns : tie.Need-returns
-returns c = rw (sym (c .before .before .before .before .before .before .before .before .before .before .before .point-at .ensures) ∙ ap saidPointed (c .before .before .before .before .before .before .before .before .before .enum-told .given .1)) (adds-then (c .before .before .before .before .before .before .before .put-points .ensures .0) (c .before .before .put .ensures))
+returns c = rw (sym (c .before .before .before .before .before .before .before .before .before .before .before .point-at .ensures) ∙ ap pointResult (c .before .before .before .before .before .before .before .before .before .enum-told .given .1)) (adds-then (c .before .before .before .before .before .before .before .put-points .ensures .0) (c .before .before .put .ensures))
 
 same-length-2 : tie.Need-same-length-2
 same-length-2 c = c .before .before .put2 .kept .0
 
 returns-2 : tie.Need-returns-2
-returns-2 c = rw (sym (c .before .before .before .before .before .before .before .point-at .ensures) ∙ ap saidPointed (c .before .before .before .before .before .enum-told2 .given .1)) (c .before .before .put2 .ensures)
+returns-2 c = rw (sym (c .before .before .before .before .before .before .before .point-at .ensures) ∙ ap pointResult (c .before .before .before .before .before .enum-told2 .given .1)) (c .before .before .put2 .ensures)
 
 pub put-body-spec : {M : Type 1} → statement M
 put-body-spec =

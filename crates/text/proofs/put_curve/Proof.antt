@@ -7,7 +7,7 @@ use Rattle.text.proofs.put_curve.Statement.{statement}
 use Rattle.text.proofs.put_curve.Tie as tie
 
 returns : tie.Need-returns
-returns c = front-none (curveText (c .before .before .before .before .args .k) (bucketsOf (c .before .before .before .before .args .counts .now) (c .before .before .before .before .args .thresholds .now))) (c .before .before .before .before .args .out .now) (c .if1 .taken)
+returns c = front-none (curveText (c .before .before .before .before .args .kept) (bucketsOf (c .before .before .before .before .args .counts .now) (c .before .before .before .before .args .thresholds .now))) (c .before .before .before .before .args .out .now) (c .if1 .taken)
 
 put-first-line-requires : tie.Need-put-first-line-requires
 put-first-line-requires c κs = omega (arith, room (c .before .before .before .before .before .args .out .now) (c .before .before .before .before .before .args .counts .now) (c .before .if1 .left))

@@ -1,5 +1,5 @@
 use mathlib.Core.Path.{sym, ap, _∙_}
-use Rattle.rules.specs.Answers.{saidPointed}
+use Rattle.rules.specs.Answers.{pointResult}
 use Rattle.text.proofs.Laws.{adds-none}
 use borrow.Author.Needs.{needs}
 use Rattle.text.proofs.put_point.Statement.{statement}
@@ -21,10 +21,10 @@ same-length : tie.Need-same-length
 same-length c = c .before .before .put-point-line .kept .0
 
 returns : tie.Need-returns
-returns c = (rw (sym (c .before .before .before .before .before .before .before .point-at .ensures) ∙ ap saidPointed (c .before .before .before .before .before .p .given .1)) (c .before .before .put-point-line .ensures .0), search needs)
+returns c = (rw (sym (c .before .before .before .before .before .before .before .point-at .ensures) ∙ ap pointResult (c .before .before .before .before .before .p .given .1)) (c .before .before .put-point-line .ensures .0), search needs)
 
 returns-2 : tie.Need-returns-2
-returns-2 c = (rw (sym (c .before .before .point-at .ensures) ∙ ap saidPointed (c .enum-told .given .1)) (adds-none _ _ (search needs)), search needs)
+returns-2 c = (rw (sym (c .before .before .point-at .ensures) ∙ ap pointResult (c .enum-told .given .1)) (adds-none _ _ (search needs)), search needs)
 
 pub put-point-spec : {M : Type 1} → statement M
 put-point-spec =

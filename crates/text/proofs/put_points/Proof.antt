@@ -45,7 +45,7 @@ returns : tie.Need-returns Inv-loop μ-loop
 returns c =
     let head = c .before .loop in
     let start = c .before .before .before .before .before in
-    let all : head .number ≡ start .args .k .settings .buckets + 1 = omega arith in
+    let all : head .number ≡ start .args .kept .settings .buckets + 1 = omega arith in
     (rw all at (head .inv .3), omega (arith, head .inv .2, start .pre))
 
 pub put-points-spec : {M : Type 1} → statement M

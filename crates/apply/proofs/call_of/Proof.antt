@@ -1,0 +1,49 @@
+use borrow.Author.Tests.{eq-eqb, ne-eqb}
+use borrow.Author.Needs.{needs}
+use Rattle.apply.proofs.call_of.Statement.{statement}
+use Rattle.apply.proofs.call_of.Tie as tie
+
+enum-known-event : tie.Need-enum-known-event
+enum-known-event c = search needs
+
+enum-known-event-2 : tie.Need-enum-known-event-2
+enum-known-event-2 c = search needs
+
+returns : tie.Need-returns
+returns c = rw (c .before .before .event2 .given .1, eq-eqb _ _ (c .if1 .taken))
+
+enum-told : tie.Need-enum-told
+enum-told c = search needs
+
+enum-known-event-3 : tie.Need-enum-known-event-3
+enum-known-event-3 c = search needs
+
+settings-of-requires : tie.Need-settings-of-requires
+settings-of-requires c κs = search needs
+
+returns-2 : tie.Need-returns-2
+returns-2 c = rw (c .before .event .given .1)
+
+returns-3 : tie.Need-returns-3
+returns-3 c = rw (c .before .before .event2 .given .1, ne-eqb _ _ (c .if1 .left))
+
+returns-4 : tie.Need-returns-4
+returns-4 c = rw (c .enum-told .given .1)
+
+returns-5 : tie.Need-returns-5
+returns-5 c = rw (c .before .before .event3 .given .1, c .settings-of .ensures)
+
+pub call-of-spec : {M : Type 1} → statement M
+call-of-spec =
+    tie.close
+    (tie.spec
+    enum-known-event
+    enum-known-event-2
+    returns
+    enum-told
+    enum-known-event-3
+    settings-of-requires
+    returns-2
+    returns-3
+    returns-4
+    returns-5)

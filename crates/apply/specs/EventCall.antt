@@ -1,0 +1,44 @@
+-- What an event asks of a tracker, and what it answers from the answer of that call. Assumes nothing.
+use Prim.Native.Nat.{ℕ}
+use mathlib.Core.List.{List, [], _∷_}
+use Rattle.rules.specs.declared.Record.{Record}
+use Rattle.rules.specs.declared.Event.{Event}
+use Rattle.rules.specs.declared.Event.the-variants as event
+use Rattle.rules.specs.declared.Started.{Started}
+use Rattle.rules.specs.declared.Started.the-variants as started
+use Rattle.rules.specs.declared.Applied.{Applied}
+use Rattle.rules.specs.declared.Taken.{Taken}
+use Rattle.rules.specs.declared.Taken.the-variants as taken
+use Rattle.rules.specs.declared.Referred.{Referred}
+use Rattle.rules.specs.declared.Answer.{Answer}
+use Rattle.rules.specs.declared.Answer.the-variants as answer
+use Rattle.rules.specs.Events.{settingsOf, referencesOf}
+use Rattle.apply.specs.declared.Call.{Call}
+use Rattle.apply.specs.declared.Call.the-variants as call
+
+-- the first of an event's references, of which there is one at the most
+abbrev pub referring : List ℕ → Call
+referring [] = call.Nothing
+referring (x ∷ rest) = call.Reference x
+
+-- the event as one call
+abbrev pub callOf : Event → Call
+callOf (event.Location location) = referring (referencesOf (event.Location location))
+callOf (event.Span offset length) = referring (referencesOf (event.Span offset length))
+callOf event.Restart = call.Restart
+callOf (event.Setup body) = call.Setup (settingsOf body)
+
+-- a start over a tracker that had the record kept
+abbrev pub startedOn : Record → Started → Applied
+startedOn kept (started.Ready j) = record { kept = j; answer = taken.Whole }
+startedOn kept (started.Refused r) = record { kept = kept; answer = taken.Refused r }
+
+-- an event that stood for one reference
+abbrev pub takenOf : Answer → Taken
+takenOf answer.Skipped = taken.Whole
+takenOf (answer.Again d) = taken.Whole
+takenOf answer.First = taken.Whole
+takenOf (answer.Refused r) = taken.Refused r
+
+abbrev pub takenFrom : Referred → Applied
+takenFrom r = record { kept = r .kept; answer = takenOf (r .answer) }

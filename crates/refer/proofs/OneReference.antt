@@ -1,0 +1,148 @@
+-- One reference in the tables: what each branch of the code leaves is what the rules say. Assumes nothing.
+use Prim.Native.Nat.{ℕ, suc, _+_, _≤_, _<_}
+use mathlib.Core.Path.{_≡_, refl, sym, ap, _∙_}
+use mathlib.Core.Bool.{true, false, cond}
+use mathlib.Core.List.{List, _∷_}
+use mathlib.Core.Option.{Option, some, none}
+use native.Mathlib.Omega.{arith}
+use lib.Dec.{ltb}
+use lib.ListN.{length, take}
+use lib.Seq.{length-take-le}
+use borrow.Author.Tests.{lt-ltb, le-ltb, eqb-false, ltb-true, ltb-false}
+use Rattle.rules.specs.declared.Record.{Record}
+use Rattle.rules.specs.declared.Refusal.the-variants as refusal
+use Rattle.rules.specs.declared.Answer.the-variants as answer
+use Rattle.rules.specs.Lists.{over}
+use Rattle.rules.specs.Settings.{needed, mostReferences, Tables}
+use Rattle.rules.specs.Reference.{firstPlace, toFront, under, recordIn, bucketFor, withinLimit, sampledStep, again, first, skipped}
+use Rattle.rules.specs.Answers.{refused, gives, replyResult}
+use Rattle.rules.specs.Order.{outcome}
+use Rattle.rules.specs.Layout.{Tracker, bucketsOf, tablesOf, tracker, liveOf, sampleOf, hashFor, profileOf, stored}
+use Rattle.rules.specs.Conditions.{tooShort, tornRecord, tornAt, tornFor, full}
+use Rattle.rules.specs.Calls.{referOf}
+use Rattle.rules.proofs.Tests.{cases, clash}
+use Rattle.rules.proofs.Tables.{over-same}
+use Rattle.rules.proofs.Places.{front-length}
+use Rattle.rules.proofs.Bounds.{Whole, whole, AllLong, all-long}
+use Rattle.rules.proofs.Steps.{step-skipped, step-sampled}
+use Rattle.rules.proofs.Clean.{bucket-needed}
+use Rattle.rules.proofs.FullRate.{widths-cut}
+use Rattle.rules.proofs.Calls.{Accepted, refer-bucket, refer-accept}
+use Rattle.buckets.specs.Buckets.{recorded, recordedOf}
+use Rattle.buckets.proofs.Laws.{recorded-needed}
+use Rattle.live.specs.declared.Lowered.{Lowered}
+use Rattle.live.specs.Live.{movedToFront, lowering, loweringOf}
+use Rattle.live.proofs.Laws.{found-below, moved-over, moved-new}
+use Rattle.refer.specs.Refer.{referredOf, countedIn, enteredOf, Samples}
+
+module _ (x : ℕ) (kept : Record) (ls cs ts : List ℕ) (w : Samples x (tracker kept ls cs ts)) where
+  abbrev s : Tracker
+  s = tracker kept ls cs ts
+
+  pub bounds : Whole kept
+  bounds = whole kept (w .record-whole)
+
+  long : AllLong (kept .settings) (s .tables)
+  long = all-long (kept .settings) (s .tables) (w .tables-long)
+
+  -- it can be counted, as sampled too
+  pub countable : (kept .numbers .references < 4294967295) × (kept .numbers .sampled ≤ kept .numbers .references) × (1 ≤ 1)
+  countable = (omega (arith, bounds .references-high, eqb-false (kept .numbers .references) mostReferences (w .room)), bounds .sampled-high, omega arith)
+
+  pub threshold-some : 0 < kept .threshold
+  threshold-some = omega (arith, ltb-true (hashFor (kept .settings) x) (kept .threshold) (w .below))
+
+  counted-live : length (take (kept .live) ls) ≡ kept .live
+  counted-live = length-take-le (kept .live) ls (omega (arith, bounds .live-high, long .locations-long))
+
+  -- by the place in the live list, and the bucket that goes with it
+  module _ (place : Option ℕ) (found : firstPlace x (liveOf s) ≡ place) (j : ℕ) (is : j ≡ bucketFor (profileOf (kept .settings)) (kept .threshold) place) where
+    in-needed : j < needed (kept .settings .buckets)
+    in-needed = rw is (bucket-needed (profileOf (kept .settings)) (widths-cut (kept .settings .width) (kept .settings .buckets) (omega (arith, bounds .range .width-low)) .far) (kept .threshold) place)
+
+    torn-same : tornFor x s ≡ tornAt (kept .numbers .references) (kept .threshold) j (bucketsOf cs ts)
+    torn-same = rw (w .below, found, ← is)
+
+    recording : recordedOf (kept .numbers .references) (kept .threshold) j (bucketsOf cs ts)
+        ≡ cond (tornFor x s) (record { done = false; histogram = bucketsOf cs ts }) (record { done = true; histogram = recordIn (kept .threshold) j (bucketsOf cs ts) })
+    recording = rw torn-same (recorded-needed (kept .numbers .references) (kept .threshold) (kept .settings .buckets) (bucketsOf cs ts) (long .buckets .counts-long) (long .buckets .thresholds-long) j in-needed)
+
+    refuses : tornFor x s ≡ true → recordedOf (kept .numbers .references) (kept .threshold) j (bucketsOf cs ts) ≡ record { done = false; histogram = bucketsOf cs ts }
+    refuses t = recording ∙ rw t
+
+    records : tornFor x s ≡ false → recordedOf (kept .numbers .references) (kept .threshold) j (bucketsOf cs ts) ≡ record { done = true; histogram = recordIn (kept .threshold) j (bucketsOf cs ts) }
+    records t = recording ∙ rw t
+
+    module _ (cs' ts' : List ℕ) where
+      -- nothing was recorded: the bucket is torn, and all is as it was
+      pub nothing-recorded : recorded false cs' ts' ≡ recordedOf (kept .numbers .references) (kept .threshold) j (bucketsOf cs ts)
+          → outcome (replyResult ((referredOf kept (answer.Refused refusal.Torn)) .answer)) (tracker ((referredOf kept (answer.Refused refusal.Torn)) .kept) ls cs' ts') ≡ referOf x s
+      nothing-recorded e = cases (tornFor x s)
+          (λ t. (λ i. record { result = refused 3; left = record { kept = kept; tables = record { locations = ls; histogram = (e ∙ refuses t) i .histogram } } })
+          ∙ sym (refer-bucket x s (w .record-whole) (w .tables-long) (w .room) t))
+          (λ t. clash refl (ap (λ r. r .done) (sym (e ∙ records t))))
+
+      -- it was recorded, and the rest of the step is left
+      pub recorded-left : recorded true cs' ts' ≡ recordedOf (kept .numbers .references) (kept .threshold) j (bucketsOf cs ts)
+          → (bucketsOf cs' ts' ≡ recordIn (kept .threshold) j (bucketsOf cs ts))
+          × (referOf x s ≡ (let r = sampledStep (hashFor (kept .settings)) (kept .settings .limit) (profileOf (kept .settings)) x (sampleOf s) place in record { result = gives (r .reply); left = stored r s }))
+      recorded-left e = cases (tornFor x s)
+          (λ t. clash refl (ap (λ r. r .done) (e ∙ refuses t)))
+          (λ t. (
+            ap (λ r. r .histogram) (e ∙ records t),
+            refer-accept x s (record { record-whole = w .record-whole; tables-long = w .tables-long; room = w .room; bucket-sound = t })
+                ∙ (let q = step-sampled (hashFor (kept .settings)) (kept .settings .limit) (profileOf (kept .settings)) x (sampleOf s) (w .below)
+                ∙ ap (sampledStep (hashFor (kept .settings)) (kept .settings .limit) (profileOf (kept .settings)) x (sampleOf s)) found in
+                λ i. record { result = gives (q i .reply); left = stored (q i) s }),
+          ))
+
+  -- the location stands at the place d
+  pub again-done : (d : ℕ) → firstPlace x (liveOf s) ≡ some d → (j : ℕ) → j ≡ bucketFor (profileOf (kept .settings)) (kept .threshold) (some d) → (ls' cs' ts' : List ℕ)
+      → recorded true cs' ts' ≡ recordedOf (kept .numbers .references) (kept .threshold) j (bucketsOf cs ts) → ls' ≡ movedToFront d x ls
+      → outcome (replyResult ((referredOf (countedIn kept (kept .threshold) (kept .live) 1) (answer.Again d)) .answer)) (tracker ((referredOf (countedIn kept (kept .threshold) (kept .live) 1) (answer.Again d)) .kept) ls' cs' ts') ≡ referOf x s
+  unfolding sampledStep
+  again-done d found j is ls' cs' ts' e m =
+      let r = recorded-left (some d) found j is cs' ts' e in
+      let b = found-below x (kept .live) ls d found in
+      let l : kept .live ≡ length (toFront d x (liveOf s)) = sym (front-length d x (liveOf s) (omega (arith, counted-live, b .0)) ∙ counted-live) in
+      let o : ls' ≡ over (toFront d x (liveOf s)) ls = m ∙ moved-over x d (kept .live) ls (b .0) (omega (arith, bounds .live-high, long .locations-long)) in
+      (λ i. record { result = gives (again d); left = record { kept = countedIn kept (kept .threshold) (l i) 1; tables = record { locations = o i; histogram = (r .0 ∙ ap (λ z. recordIn (kept .threshold) z (bucketsOf cs ts)) is) i } } })
+      ∙ sym (r .1)
+
+  module _ (none-found : firstPlace x (liveOf s) ≡ none) (ls' cs' ts' : List ℕ) (e : recorded true cs' ts' ≡ recordedOf (kept .numbers .references) (kept .threshold) (kept .settings .buckets + 1) (bucketsOf cs ts)) where
+    -- it entered the list, with room or with a lowering
+    pub first-done : (low : Lowered) → lowering low ls' ≡ enteredOf kept x ls → outcome (replyResult ((referredOf (countedIn kept (low .threshold) (low .live) 1) answer.First) .answer)) (tracker ((referredOf (countedIn kept (low .threshold) (low .live) 1) answer.First) .kept) ls' cs' ts') ≡ referOf x s
+    unfolding sampledStep withinLimit
+    first-done low m =
+        let r = recorded-left none none-found (kept .settings .buckets + 1) refl cs' ts' e in
+        let l = counted-live in
+        cases (ltb (kept .live) (kept .settings .limit))
+        (λ t.
+        let n : ltb (kept .settings .limit) (suc (length (take (kept .live) ls))) ≡ false = le-ltb (kept .settings .limit) (suc (length (take (kept .live) ls))) (omega (arith, l, ltb-true (kept .live) (kept .settings .limit) t)) in
+        let o : movedToFront (kept .live) x ls ≡ over (x ∷ liveOf s) ls = moved-new x (kept .live) ls (omega (arith, long .locations-long, ltb-true (kept .live) (kept .settings .limit) t)) in
+        let q : kept .live + 1 ≡ suc (length (take (kept .live) ls)) = omega (arith, l) in
+        let p : lowering low ls' ≡ lowering (record { threshold = kept .threshold; live = suc (length (take (kept .live) ls)) }) (over (x ∷ liveOf s) ls) = m ∙ rw t (λ i. lowering (record { threshold = kept .threshold; live = q i }) (o i)) in
+        (λ i. record { result = gives first; left = record { kept = countedIn kept (p i .result .threshold) (p i .result .live) 1; tables = record { locations = p i .table; histogram = r .0 i } } })
+        ∙ sym (r .1 ∙ rw n))
+        (λ t.
+        let n : ltb (kept .settings .limit) (suc (length (take (kept .live) ls))) ≡ true = lt-ltb (kept .settings .limit) (suc (length (take (kept .live) ls))) (omega (arith, l, ltb-false (kept .live) (kept .settings .limit) t)) in
+        let p : lowering low ls' ≡ loweringOf (hashFor (kept .settings)) (kept .threshold) (kept .live) x ls = m ∙ rw t in
+        (λ i. record { result = gives first; left = record { kept = countedIn kept (p i .result .threshold) (p i .result .live) 1; tables = record { locations = p i .table; histogram = r .0 i } } })
+        ∙ sym (r .1 ∙ rw n))
+
+-- a reference whose hash is not below the threshold
+pub skipped-done : (x : ℕ) (kept : Record) (ls cs ts : List ℕ) → tornRecord kept ≡ false → tooShort (kept .settings) (tablesOf ls cs ts) ≡ false → full (kept .numbers) ≡ false
+    → under (hashFor (kept .settings)) (kept .threshold) x ≡ false → outcome (replyResult ((referredOf (countedIn kept (kept .threshold) (kept .live) 0) answer.Skipped) .answer)) (tracker ((referredOf (countedIn kept (kept .threshold) (kept .live) 0) answer.Skipped) .kept) ls cs ts) ≡ referOf x (tracker kept ls cs ts)
+skipped-done x kept ls cs ts e f g h =
+    let s = tracker kept ls cs ts in
+    let n : kept .live ≤ length ls = omega (arith, whole kept e .live-high, all-long (kept .settings) (s .tables) f .locations-long) in
+    let a : Accepted x s = record { record-whole = e; tables-long = f; room = g; bucket-sound = rw h } in
+    let z : kept .numbers .sampled + 0 ≡ kept .numbers .sampled = omega arith in
+    (λ i. record {
+      result = gives skipped;
+      left = record {
+        kept = record { settings = kept .settings; threshold = kept .threshold; live = sym (length-take-le (kept .live) ls n) i; numbers = record { references = kept .numbers .references + 1; sampled = z i } };
+        tables = record { locations = sym (over-same (kept .live) ls n) i; histogram = bucketsOf cs ts };
+      };
+    })
+    ∙ sym (refer-accept x s a ∙ (let q = step-skipped (hashFor (kept .settings)) (kept .settings .limit) (profileOf (kept .settings)) x (sampleOf s) h in λ i. record { result = gives (q i .reply); left = stored (q i) s }))

@@ -1,0 +1,115 @@
+use native.Mathlib.Omega.{arith}
+use mathlib.Core.Path.{refl, sym, _∙_}
+use borrow.Author.Tests.{eq-eqb, ne-eqb, lt-ltb, le-ltb}
+use Rattle.rules.proofs.Bounds.{whole}
+use Rattle.rules.proofs.Calls.{refer-torn, refer-short, refer-full}
+use Rattle.refer.proofs.OneReference.{skipped-done}
+use borrow.Author.Needs.{needs}
+use Rattle.refer.proofs.refer.Statement.{statement}
+use Rattle.refer.proofs.refer.Tie as tie
+use Rattle.rules.specs.Answers.{refused}
+
+torn-requires : tie.Need-torn-requires
+torn-requires c κs = tt
+
+refused-requires : tie.Need-refused-requires
+refused-requires c κs = tt
+
+returns : tie.Need-returns
+returns c = rw (c .refused .ensures) (sym (refer-torn _ _ (sym (c .before .before .torn .ensures) ∙ c .before .if1 .taken)))
+
+too-short-requires : tie.Need-too-short-requires
+too-short-requires c κs = tt
+
+refused-requires-2 : tie.Need-refused-requires-2
+refused-requires-2 c κs = tt
+
+same-length : tie.Need-same-length
+same-length c = refl
+
+same-length-2 : tie.Need-same-length-2
+same-length-2 c = refl
+
+same-length-3 : tie.Need-same-length-3
+same-length-3 c = refl
+
+returns-2 : tie.Need-returns-2
+returns-2 c = rw (c .refused2 .ensures) (sym (refer-short _ _ (sym (c .before .before .before .before .before .before .before .torn .ensures) ∙ c .before .before .before .before .before .before .if1 .left) (sym (c .before .before .too-short .ensures) ∙ c .before .if2 .taken)))
+
+refused-requires-3 : tie.Need-refused-requires-3
+refused-requires-3 c κs = tt
+
+same-length-4 : tie.Need-same-length-4
+same-length-4 c = refl
+
+same-length-5 : tie.Need-same-length-5
+same-length-5 c = refl
+
+same-length-6 : tie.Need-same-length-6
+same-length-6 c = refl
+
+returns-3 : tie.Need-returns-3
+returns-3 c = rw (c .refused3 .ensures) (sym (refer-full _ _ (sym (c .before .before .before .before .before .before .before .before .before .torn .ensures) ∙ c .before .before .before .before .before .before .before .before .if1 .left) (sym (c .before .before .before .before .too-short .ensures) ∙ c .before .before .before .if2 .left) (eq-eqb _ _ (c .before .if3 .taken))))
+
+hash-of-requires : tie.Need-hash-of-requires
+hash-of-requires c κs = tt
+
+counted-in-requires : tie.Need-counted-in-requires
+counted-in-requires c κs = let b = whole _ (sym (c .before .before .before .before .before .before .before .before .before .before .before .torn .ensures) ∙ c .before .before .before .before .before .before .before .before .before .before .if1 .left) in (omega (arith, b .references-high, c .before .before .before .if3 .left), b .sampled-high, omega arith)
+
+same-length-7 : tie.Need-same-length-7
+same-length-7 c = refl
+
+same-length-8 : tie.Need-same-length-8
+same-length-8 c = refl
+
+same-length-9 : tie.Need-same-length-9
+same-length-9 c = refl
+
+returns-4 : tie.Need-returns-4
+returns-4 c = rw (c .counted-in .ensures) (skipped-done _ _ _ _ _ (sym (c .before .before .before .before .before .before .before .before .before .before .before .before .torn .ensures) ∙ c .before .before .before .before .before .before .before .before .before .before .before .if1 .left) (sym (c .before .before .before .before .before .before .before .too-short .ensures) ∙ c .before .before .before .before .before .before .if2 .left) (ne-eqb _ _ (c .before .before .before .before .if3 .left)) (le-ltb _ _ (rw (c .before .before .before .hash-of .ensures) at (c .before .if4 .taken))))
+
+sampled-requires : tie.Need-sampled-requires
+sampled-requires c κs = record { record-whole = (sym (c .before .before .before .before .before .before .before .before .before .before .before .before .before .before .torn .ensures) ∙ c .before .before .before .before .before .before .before .before .before .before .before .before .before .if1 .left); tables-long = (sym (c .before .before .before .before .before .before .before .before .before .too-short .ensures) ∙ c .before .before .before .before .before .before .before .before .if2 .left); room = ne-eqb _ _ (c .before .before .before .before .before .before .if3 .left); below = lt-ltb _ _ (rw (c .before .before .before .before .before .hash-of .ensures) at (c .before .before .before .if4 .left)) }
+
+same-length-10 : tie.Need-same-length-10
+same-length-10 c = search needs
+
+same-length-11 : tie.Need-same-length-11
+same-length-11 c = search needs
+
+same-length-12 : tie.Need-same-length-12
+same-length-12 c = search needs
+
+returns-5 : tie.Need-returns-5
+returns-5 c = c .before .before .before .before .before .before .sampled .ensures
+
+pub refer-spec : {M : Type 1} → statement M
+refer-spec =
+    tie.close
+    (tie.spec
+    torn-requires
+    refused-requires
+    returns
+    too-short-requires
+    refused-requires-2
+    same-length
+    same-length-2
+    same-length-3
+    returns-2
+    refused-requires-3
+    same-length-4
+    same-length-5
+    same-length-6
+    returns-3
+    hash-of-requires
+    counted-in-requires
+    same-length-7
+    same-length-8
+    same-length-9
+    returns-4
+    sampled-requires
+    same-length-10
+    same-length-11
+    same-length-12
+    returns-5)

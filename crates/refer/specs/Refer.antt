@@ -1,0 +1,39 @@
+-- What the functions of one reference hand to each other. Assumes nothing.
+use Prim.Native.Nat.{ℕ, _+_}
+use mathlib.Core.Path.{_≡_}
+use mathlib.Core.Bool.{true, false, cond}
+use mathlib.Core.List.{List}
+use lib.Dec.{ltb}
+use Rattle.rules.specs.declared.Record.{Record}
+use Rattle.rules.specs.declared.Referred.{Referred}
+use Rattle.rules.specs.declared.Answer.{Answer}
+use Rattle.rules.specs.Reference.{under}
+use Rattle.rules.specs.Layout.{Tracker, hashFor}
+use Rattle.rules.specs.Conditions.{tooShort, tornRecord, full}
+use Rattle.live.specs.Live.{Lowering, movedToFront, lowering, loweringOf}
+
+abbrev pub referredOf : Record → Answer → Referred
+referredOf kept a = record { kept = kept; answer = a }
+
+-- one reference more, counted as sampled or not
+abbrev pub countedIn : Record → (threshold live sampled : ℕ) → Record
+countedIn kept threshold live sampled = record {
+  settings = kept .settings;
+  threshold = threshold;
+  live = live;
+  numbers = record { references = kept .numbers .references + 1; sampled = kept .numbers .sampled + sampled };
+}
+
+-- the live list with x at its front, lowered where there is no room for it
+abbrev pub enteredOf : Record → (x : ℕ) → List ℕ → Lowering
+enteredOf kept x xs =
+    cond (ltb (kept .live) (kept .settings .limit))
+    (lowering (record { threshold = kept .threshold; live = kept .live + 1 }) (movedToFront (kept .live) x xs))
+    (loweringOf (hashFor (kept .settings)) (kept .threshold) (kept .live) x xs)
+
+-- nothing refuses a reference to x but its bucket, and its hash is below the threshold
+pub record Samples (x : ℕ) (s : Tracker) : Type 0 where
+  pub record-whole : tornRecord (s .kept) ≡ false
+  pub tables-long : tooShort (s .kept .settings) (s .tables) ≡ false
+  pub room : full (s .kept .numbers) ≡ false
+  pub below : under (hashFor (s .kept .settings)) (s .kept .threshold) x ≡ true

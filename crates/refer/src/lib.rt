@@ -1,0 +1,176 @@
+// One reference: the tests, the hash, the live list and the bucket. It takes any record, tables of any length with any contents, and
+// any location.
+use live::Lowered;
+use rules::Answer;
+use rules::Found;
+use rules::Numbers;
+use rules::Record;
+use rules::Referred;
+use rules::Refusal;
+ghost use mathlib.Core.Path.{_≡_};
+ghost use mathlib.Core.Option.{some, none};
+ghost use Prim.Native.Nat.{_<_, _≤_};
+ghost use Rattle.rules.specs.Reference.{widths, firstPlace, scaledDistance};
+ghost use Rattle.rules.specs.Answers.{replyResult};
+ghost use Rattle.rules.specs.Order.{outcome};
+ghost use Rattle.rules.specs.Layout.{tracker, liveOf};
+ghost use Rattle.rules.specs.Calls.{referOf};
+ghost use Rattle.refer.specs.Refer.{referredOf, countedIn, enteredOf, Samples};
+ghost use Rattle.live.specs.Live.{lowering};
+
+// A refusal, with the record as it was.
+fn refused(kept: Record, why: Refusal) -> Referred
+    ensures { λ r. ⌜ r ≡ referredOf kept (Answer.Refused why) ⌝ }
+{
+    Referred {
+        kept: kept,
+        answer: Answer::Refused(why),
+    }
+}
+
+// The record after a reference that was answered so, with this threshold and so many live.
+fn counted_in(kept: Record, threshold: u64, live: u64, sampled: u64) -> Record
+    requires { ⌜ (kept .numbers .references < 4294967295) × (kept .numbers .sampled ≤ kept .numbers .references) × (sampled ≤ 1) ⌝ }
+    ensures { λ r. ⌜ r ≡ countedIn kept threshold live sampled ⌝ }
+{
+    let s = kept.settings;
+    Record {
+        settings: s,
+        threshold,
+        live,
+        numbers: Numbers {
+            references: kept.numbers.references + 1,
+            sampled: kept.numbers.sampled + sampled,
+        },
+    }
+}
+
+// The bucket of a place in the live list: that of its scaled distance, or far.
+fn bucket_of(place: usize, threshold: u64, width: u64, buckets: u64) -> usize
+    requires { ⌜ (place < 8192) × (0 < threshold) × (0 < width) × (buckets ≤ 10000) ⌝ }
+    ensures { λ r. ⌜ r ≡ widths width buckets .bucketOf (scaledDistance threshold place) ⌝ }
+{
+    let bucket = (place as u64) * 0x100_0000 / threshold / width;
+    if buckets <= bucket {
+        return buckets as usize;
+    }
+    bucket as usize
+}
+
+// A sampled reference to a location that stands at a place of the live list.
+fn again_at(
+    kept: Record,
+    location: u64,
+    place: usize,
+    locations: &mut [u64],
+    counts: &mut [u64],
+    thresholds: &mut [u32],
+) -> Referred
+    requires { ⌜ Samples location (tracker kept (now locations) (now counts) (now thresholds)) × (firstPlace location (liveOf (tracker kept (now locations) (now counts) (now thresholds))) ≡ some place) ⌝ }
+    ensures { λ r. ⌜ outcome (replyResult (r .answer)) (tracker (r .kept) (now (locations .exit)) (now (counts .exit)) (now (thresholds .exit))) ≡ referOf location (tracker kept (now (locations .entry)) (now (counts .entry)) (now (thresholds .entry))) ⌝ }
+{
+    let threshold = kept.threshold;
+    let bucket = bucket_of(place, threshold, kept.settings.width, kept.settings.buckets);
+    let references = kept.numbers.references as u32;
+    if buckets::record_in(counts, thresholds, bucket, threshold, references) {
+        live::to_front(locations, place, location);
+        Referred {
+            kept: counted_in(kept, threshold, kept.live, 1),
+            answer: Answer::Again(place as u64),
+        }
+    } else {
+        refused(kept, Refusal::Torn)
+    }
+}
+
+// A location that is not in the live list enters it at the front, and the threshold falls where there is no room for it: the threshold
+// and the live number after that.
+fn enter(kept: Record, location: u64, locations: &mut [u64]) -> Lowered
+    ensures { λ r. ⌜ lowering r (now (locations .exit)) ≡ enteredOf kept location (now (locations .entry)) ⌝ }
+{
+    let live = kept.live as usize;
+    if kept.live < kept.settings.limit {
+        live::to_front(locations, live, location);
+        return Lowered {
+            threshold: kept.threshold,
+            live: live + 1,
+        };
+    }
+    live::lower(
+        locations,
+        live,
+        kept.settings.hashing,
+        kept.threshold,
+        location,
+    )
+}
+
+// A sampled reference to a location that is not in the live list.
+fn first_time(
+    kept: Record,
+    location: u64,
+    locations: &mut [u64],
+    counts: &mut [u64],
+    thresholds: &mut [u32],
+) -> Referred
+    requires { ⌜ Samples location (tracker kept (now locations) (now counts) (now thresholds)) × (firstPlace location (liveOf (tracker kept (now locations) (now counts) (now thresholds))) ≡ none) ⌝ }
+    ensures { λ r. ⌜ outcome (replyResult (r .answer)) (tracker (r .kept) (now (locations .exit)) (now (counts .exit)) (now (thresholds .exit))) ≡ referOf location (tracker kept (now (locations .entry)) (now (counts .entry)) (now (thresholds .entry))) ⌝ }
+{
+    let threshold = kept.threshold;
+    let bucket = (kept.settings.buckets + 1) as usize;
+    let references = kept.numbers.references as u32;
+    if buckets::record_in(counts, thresholds, bucket, threshold, references) {
+        let entered = enter(kept, location, locations);
+        Referred {
+            kept: counted_in(kept, entered.threshold, entered.live as u64, 1),
+            answer: Answer::First,
+        }
+    } else {
+        refused(kept, Refusal::Torn)
+    }
+}
+
+// A sampled reference: to a location of the live list, or a first one.
+fn sampled(
+    kept: Record,
+    location: u64,
+    locations: &mut [u64],
+    counts: &mut [u64],
+    thresholds: &mut [u32],
+) -> Referred
+    requires { ⌜ Samples location (tracker kept (now locations) (now counts) (now thresholds)) ⌝ }
+    ensures { λ r. ⌜ outcome (replyResult (r .answer)) (tracker (r .kept) (now (locations .exit)) (now (counts .exit)) (now (thresholds .exit))) ≡ referOf location (tracker kept (now (locations .entry)) (now (counts .entry)) (now (thresholds .entry))) ⌝ }
+{
+    match live::first_place(locations, kept.live as usize, location) {
+        Found::At(place) => again_at(kept, location, place, locations, counts, thresholds),
+        Found::Nothing => first_time(kept, location, locations, counts, thresholds),
+    }
+}
+
+// One reference.
+pub fn refer(
+    kept: Record,
+    location: u64,
+    locations: &mut [u64],
+    counts: &mut [u64],
+    thresholds: &mut [u32],
+) -> Referred
+    ensures { λ r. ⌜ outcome (replyResult (r .answer)) (tracker (r .kept) (now (locations .exit)) (now (counts .exit)) (now (thresholds .exit))) ≡ referOf location (tracker kept (now (locations .entry)) (now (counts .entry)) (now (thresholds .entry))) ⌝ }
+{
+    if judge::torn(kept) {
+        return refused(kept, Refusal::Torn);
+    }
+    if judge::too_short(kept.settings, locations, counts, thresholds) {
+        return refused(kept, Refusal::Tables);
+    }
+    if kept.numbers.references == 0xffff_ffff {
+        return refused(kept, Refusal::Full);
+    }
+    if kept.threshold <= hash::hash_of(kept.settings.hashing, location) {
+        return Referred {
+            kept: counted_in(kept, kept.threshold, kept.live, 0),
+            answer: Answer::Skipped,
+        };
+    }
+    sampled(kept, location, locations, counts, thresholds)
+}
