@@ -1,6 +1,7 @@
 // One trace event, handed to a tracker.
 use rules::Answer;
 use rules::Applied;
+use rules::BLOCK_BYTES;
 use rules::Event;
 use rules::Hashing;
 use rules::Record;
@@ -13,8 +14,8 @@ ghost use mathlib.Core.Path.{_≡_};
 ghost use Rattle.rules.specs.Answers.{takenResult};
 ghost use Rattle.rules.specs.Order.{outcome};
 ghost use Rattle.rules.specs.Events.{settingsOf};
-ghost use Rattle.rules.specs.Layout.{tracker};
 ghost use Rattle.rules.specs.Calls.{applyOf};
+ghost use Rattle.rules.specs.Lent.{trackerAfter, trackerBefore};
 ghost use Rattle.apply.specs.EventCall.{callOf, startedOn, takenFrom};
 
 // What an event asks of a tracker: at most one reference, or a fresh start.
@@ -91,7 +92,7 @@ fn call_of(event: Event) -> Call
             if length == 0 {
                 return Call::Nothing;
             }
-            Call::Reference(offset / 4096)
+            Call::Reference(offset / BLOCK_BYTES)
         }
         Event::Restart => Call::Restart,
         Event::Setup(body) => Call::Setup(settings_of(body)),
@@ -106,7 +107,8 @@ pub fn apply(
     counts: &mut [u64],
     thresholds: &mut [u32],
 ) -> Applied
-    ensures { λ r. ⌜ outcome (takenResult (r .answer)) (tracker (r .kept) (now (locations .exit)) (now (counts .exit)) (now (thresholds .exit))) ≡ applyOf event (tracker kept (now (locations .entry)) (now (counts .entry)) (now (thresholds .entry))) ⌝ }
+    ensures { λ r. ⌜ outcome (takenResult (r .answer)) (trackerAfter (r .kept) locations counts thresholds)
+        ≡ applyOf event (trackerBefore kept locations counts thresholds) ⌝ }
 {
     match call_of(event) {
         Call::Nothing => Applied {

@@ -8,7 +8,7 @@ use native.Mathlib.Numerals.{add-one}
 use native.Mathlib.Omega.{arith}
 use lib.ListN.{length, length-set}
 use borrow.Author.Tests.{ltb-true, le-ltb, lt-ltb, lt-leb}
-use Rattle.rules.specs.Settings.{Histogram, needed}
+use Rattle.rules.specs.Settings.{Histogram, needed, oneReference}
 use Rattle.rules.specs.Reference.{rescaled, countAt, thresholdAt, recordIn}
 use Rattle.rules.specs.Curve.{sumTo, rawTo, hitsAt, totalOf}
 use Rattle.rules.specs.Answers.{refused, gives}
@@ -24,7 +24,7 @@ module _ (references t : ℕ) (g : Histogram) where
   unfolding tornTo
   any-torn n e = or-left (anyTorn references t n g) _ e
 
-  too-many : (n : ℕ) → 256 * references < rawTo n g → tornTo references t n g ≡ true
+  too-many : (n : ℕ) → oneReference * references < rawTo n g → tornTo references t n g ≡ true
   unfolding tornTo
   too-many n h = or-right (anyTorn references t n g) _ (lt-ltb _ _ h)
 
@@ -32,7 +32,7 @@ module _ (references t : ℕ) (g : Histogram) where
   unfolding tornTo anyTorn rawTo
   torn-step n e = cases (anyTorn references t n g)
       (λ a. any-torn (suc n) (or-left (anyTorn references t n g) _ a))
-      (λ a. let h : 256 * references < rawTo n g = ltb-true _ _ (rw a at e) in too-many (suc n) (omega arith))
+      (λ a. let h : oneReference * references < rawTo n g = ltb-true _ _ (rw a at e) in too-many (suc n) (omega arith))
 
   -- what is torn stays torn with more buckets
   pub torn-more : (i n : ℕ) → i ≤ n → tornTo references t i g ≡ true → tornTo references t n g ≡ true
@@ -46,7 +46,7 @@ module _ (references t : ℕ) (g : Histogram) where
   unfolding anyTorn
   torn-here i n h e = torn-more (suc i) n h (any-torn (suc i) (or-right (anyTorn references t i g) _ e))
 
-  pub torn-over : (raw i n : ℕ) → i < n → raw ≡ rawTo i g → 256 * references < raw + countAt i g → tornTo references t n g ≡ true
+  pub torn-over : (raw i n : ℕ) → i < n → raw ≡ rawTo i g → oneReference * references < raw + countAt i g → tornTo references t n g ≡ true
   unfolding rawTo
   torn-over raw i n h q e = torn-more (suc i) n h (too-many (suc i) (omega arith))
 
@@ -56,7 +56,7 @@ module _ (references t : ℕ) (g : Histogram) where
   unfolding anyTorn rawTo sumTo
   so-far-none = record { whole = refl; raw-is = refl; sum-is = refl; raw-high = omega arith; sum-high = omega arith }
 
-  pub so-far-more : (raw sum i : ℕ) → SoFar references t i g raw sum → tornAt references t i g ≡ false → raw + countAt i g ≤ 256 * references → SoFar references t (i + 1) g (raw + countAt i g) (sum + rescaled t (countAt i g) (thresholdAt i g))
+  pub so-far-more : (raw sum i : ℕ) → SoFar references t i g raw sum → tornAt references t i g ≡ false → raw + countAt i g ≤ oneReference * references → SoFar references t (i + 1) g (raw + countAt i g) (sum + rescaled t (countAt i g) (thresholdAt i g))
   unfolding anyTorn rawTo sumTo
   so-far-more raw sum i s e h = record {
     whole = rw (add-one, s .whole, e);
@@ -75,7 +75,7 @@ module _ (references t : ℕ) (g : Histogram) where
 
     pub report-whole : {middle raw hits all total : ℕ} → middle ≡ min point n → SoFar references t middle g raw hits → SoFar references t n g all total → gives (record { hits = hits; total = total }) ≡ reportOf references t n point g
     unfolding reportOf tornTo
-    report-whole e m s = rw (le-ltb _ _ h, le-ltb _ _ k, s .whole, le-ltb (256 * references) (rawTo n g) (omega (arith, s .raw-is, s .raw-high)), ← e, ← m .sum-is, ← s .sum-is)
+    report-whole e m s = rw (le-ltb _ _ h, le-ltb _ _ k, s .whole, le-ltb (oneReference * references) (rawTo n g) (omega (arith, s .raw-is, s .raw-high)), ← e, ← m .sum-is, ← s .sum-is)
 
 -- ---- what a caller needs besides
 

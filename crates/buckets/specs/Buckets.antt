@@ -6,7 +6,7 @@ use mathlib.Core.List.{List}
 use lib.Dec.{ltb, leb}
 use lib.ListN.{length}
 use Rattle.rules.specs.declared.Sums.{Sums}
-use Rattle.rules.specs.Settings.{Histogram}
+use Rattle.rules.specs.Settings.{Histogram, oneReference}
 use Rattle.rules.specs.Reference.{recordIn}
 use Rattle.rules.specs.Curve.{sumTo, rawTo}
 use Rattle.rules.specs.Answers.{Result, refused, gives}
@@ -44,7 +44,7 @@ pub record SoFar (references t n : ℕ) (g : Histogram) (raw sum : ℕ) : Type 0
   pub whole : anyTorn references t n g ≡ false
   pub raw-is : raw ≡ rawTo n g
   pub sum-is : sum ≡ sumTo t n g
-  pub raw-high : raw ≤ 256 * references
+  pub raw-high : raw ≤ oneReference * references
   pub sum-high : sum ≤ raw
 
 -- what is answered of the buckets below n

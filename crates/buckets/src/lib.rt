@@ -1,4 +1,6 @@
 // The histogram in its two lent tables: a count in units of 1/256 reference to each bucket, and the threshold it was last recorded under.
+use rules::FULL_RATE;
+use rules::ONE_REFERENCE;
 use rules::Reported;
 use rules::Sums;
 ghost use mathlib.Core.Path.{_≡_};
@@ -8,6 +10,7 @@ ghost use lib.ListN.{length};
 ghost use Rattle.rules.specs.Answers.{reportResult};
 ghost use Rattle.rules.specs.Layout.{bucketsOf};
 ghost use Rattle.rules.specs.Conditions.{tornBucket};
+ghost use Rattle.rules.specs.Lent.{bucketsBefore};
 ghost use Rattle.buckets.specs.Buckets.{recorded, recordedOf, SoFar, addedTo, reportOf};
 
 // The raw counts of some buckets together, and the same as they are reported.
@@ -33,8 +36,8 @@ fn torn(count: u64, own: u32, threshold: u64, references: u32) -> bool
     ensures { λ r. ⌜ r ≡ tornBucket references threshold count own ⌝ }
 {
     let b = own as u64;
-    let most = 256 * (references as u64);
-    (b == 0) | (b < threshold) | (0x100_0000 < b) | (most < count)
+    let most = ONE_REFERENCE * (references as u64);
+    (b == 0) | (b < threshold) | (FULL_RATE < b) | (most < count)
 }
 
 // Records one reference in the bucket at a place. False: nothing changed, since the place is outside a table or the bucket is torn.
@@ -45,7 +48,8 @@ pub fn record_in(
     threshold: u64,
     references: u32,
 ) -> bool
-    ensures { λ r. ⌜ recorded r (now (counts .exit)) (now (thresholds .exit)) ≡ recordedOf references threshold at (bucketsOf (now (counts .entry)) (now (thresholds .entry))) ⌝ }
+    ensures { λ r. ⌜ recorded r (now (counts .exit)) (now (thresholds .exit))
+        ≡ recordedOf references threshold at (bucketsBefore counts thresholds) ⌝ }
 {
     if counts.len() <= at {
         return false;
@@ -59,7 +63,7 @@ pub fn record_in(
         return false;
     }
     let b = own as u64;
-    counts[at] = count * threshold / b + 256;
+    counts[at] = count * threshold / b + ONE_REFERENCE;
     thresholds[at] = threshold as u32;
     true
 }
@@ -74,10 +78,11 @@ fn add_up(
     threshold: u64,
     references: u32,
 ) -> Added
-    requires { ⌜ (from ≤ to) × (to ≤ length (now counts)) × (to ≤ length (now thresholds)) × SoFar references threshold from (bucketsOf (now counts) (now thresholds)) (adding .raw) (adding .sum) ⌝ }
-    ensures { λ r. ⌜ addedTo references threshold to (bucketsOf (now (counts .entry)) (now (thresholds .entry))) r ⌝ }
+    requires { ⌜ (from ≤ to) × (to ≤ length (now counts)) × (to ≤ length (now thresholds))
+        × SoFar references threshold from (bucketsOf (now counts) (now thresholds)) (adding .raw) (adding .sum) ⌝ }
+    ensures { λ r. ⌜ addedTo references threshold to (bucketsBefore counts thresholds) r ⌝ }
 {
-    let most = 256 * (references as u64);
+    let most = ONE_REFERENCE * (references as u64);
     let mut raw = adding.raw;
     let mut sum = adding.sum;
     let mut i = from;
@@ -107,7 +112,7 @@ pub fn report(
     threshold: u64,
     references: u32,
 ) -> Reported
-    ensures { λ r. ⌜ reportResult r ≡ reportOf references threshold needed point (bucketsOf (now (counts .entry)) (now (thresholds .entry))) ⌝ }
+    ensures { λ r. ⌜ reportResult r ≡ reportOf references threshold needed point (bucketsBefore counts thresholds) ⌝ }
 {
     if counts.len() < needed {
         return Reported::Torn;

@@ -15,10 +15,11 @@ ghost use Prim.Native.Nat.{_+_, _-_, _≤_, _<_};
 ghost use lib.Dec.{ltb};
 ghost use lib.ListN.{length, take, drop};
 ghost use Rattle.rules.specs.Answers.{numberOf};
-ghost use Rattle.rules.specs.Layout.{bucketsOf, tablesOf, tracker};
+ghost use Rattle.rules.specs.Lent.{tablesBefore, trackerBefore, bucketsBefore, tablesAfter};
 ghost use Rattle.text.specs.Text.{refusedLine, curveText};
 ghost use Rattle.feed.specs.Feed.{endingResult};
-ghost use Rattle.curve.specs.Program.{Fitting, firstSettings, textFrom, textOver, programOf, Stands, Telling, Ready, AfterFed, AfterBytes, AfterRead};
+ghost use Rattle.curve.specs.Program.{firstSettings, textFrom, textOver, programOf};
+ghost use Rattle.curve.specs.Program.{Fitting, Stands, Telling, Ready, AfterFed, AfterBytes, AfterRead};
 
 // ---- the input, read in pieces
 
@@ -96,7 +97,7 @@ fn put_end(
     thresholds: &[u32],
 ) -> usize
     requires { ⌜ (length (now counts) ≤ 1026) × (65536 ≤ length (now out)) ⌝ }
-    ensures { λ r. ⌜ Stands (cond (ltb 0 left) (refusedLine 7 place) (curveText kept (bucketsOf (now (counts .entry)) (now (thresholds .entry))))) (now (out .exit)) r ⌝ }
+    ensures { λ r. ⌜ Stands (cond (ltb 0 left) (refusedLine 7 place) (curveText kept (bucketsBefore counts thresholds))) (now (out .exit)) r ⌝ }
 {
     if 0 < left {
         return text::put_refused_line(out, 7, place);
@@ -148,7 +149,8 @@ fn after_bytes(
     thresholds: &mut [u32],
 ) -> Next
     requires { ⌜ Ready p × (p .left + count ≤ 65536) × (length (now buffer) ≡ 65536) ⌝ }
-    ensures { λ r. ⌜ AfterBytes p (tablesOf (now (locations .entry)) (now (counts .entry)) (now (thresholds .entry))) (take (p .left + count) (now (buffer .entry))) r (now (buffer .exit)) (tablesOf (now (locations .exit)) (now (counts .exit)) (now (thresholds .exit))) ⌝ }
+    ensures { λ r. ⌜ AfterBytes p (tablesBefore locations counts thresholds)
+        (take (p .left + count) (now (buffer .entry))) r (now (buffer .exit)) (tablesAfter locations counts thresholds) ⌝ }
 {
     let end = p.left + count;
     let kept = p.kept;
@@ -165,7 +167,8 @@ fn one_read(
     thresholds: &mut [u32],
 ) -> Next
     requires { ⌜ Ready p × (length (now buffer) ≡ 65536) × (length (now counts) ≤ 1026) ⌝ }
-    ensures { λ r. ⌜ AfterRead p (tablesOf (now (locations .entry)) (now (counts .entry)) (now (thresholds .entry))) (take (p .left) (now (buffer .entry))) r (now (buffer .exit)) (tablesOf (now (locations .exit)) (now (counts .exit)) (now (thresholds .exit))) ⌝ }
+    ensures { λ r. ⌜ AfterRead p (tablesBefore locations counts thresholds)
+        (take (p .left) (now (buffer .entry))) r (now (buffer .exit)) (tablesAfter locations counts thresholds) ⌝ }
 {
     let kept = p.kept;
     match read_behind(buffer, p.left) {
@@ -192,7 +195,7 @@ fn follow(
     thresholds: &mut [u32],
 ) -> Done
     requires { ⌜ (length (now buffer) ≡ 65536) × (length (now counts) ≤ 1026) ⌝ }
-    ensures { λ r. ⌜ Telling (textFrom (tracker kept (now (locations .entry)) (now (counts .entry)) (now (thresholds .entry)))) r (now (buffer .exit)) ⌝ }
+    ensures { λ r. ⌜ Telling (textFrom (trackerBefore kept locations counts thresholds)) r (now (buffer .exit)) ⌝ }
 {
     let mut p = Pause {
         kept: kept,
@@ -229,7 +232,7 @@ fn first_settings() -> Settings
 // From the first settings on.
 fn run(buffer: &mut [u8], locations: &mut [u64], counts: &mut [u64], thresholds: &mut [u32]) -> Done
     requires { ⌜ (length (now buffer) ≡ 65536) × (length (now counts) ≤ 1026) ⌝ }
-    ensures { λ r. ⌜ Telling (textOver (tablesOf (now (locations .entry)) (now (counts .entry)) (now (thresholds .entry)))) r (now (buffer .exit)) ⌝ }
+    ensures { λ r. ⌜ Telling (textOver (tablesBefore locations counts thresholds)) r (now (buffer .exit)) ⌝ }
 {
     match setup::setup(first_settings(), locations, counts, thresholds) {
         Started::Ready(kept) => follow(kept, buffer, locations, counts, thresholds),

@@ -18,7 +18,7 @@ use Rattle.rules.proofs.Tests.{cases}
 use Rattle.rules.proofs.Tables.{over-front}
 use Rattle.rules.proofs.Bounds.{Whole, whole, untorn, InRange, in-range, all-long, none-short, not-torn}
 use Rattle.rules.proofs.Steps.{Tracked, tracked-fresh, tracked-step}
-use Rattle.rules.proofs.FullRate.{Cut, widths-cut}
+use Rattle.rules.proofs.FullRate.{profile-cut}
 use Rattle.rules.proofs.Fresh.{fresh-long}
 use Rattle.rules.proofs.Clean.{Clean, clean-fresh, clean-step, bucket-needed}
 use Rattle.rules.proofs.Calls.{Begins, setup-begins, restart-begins, Accepted, refer-accept, refer-accepted, sample-stored, left-whole, left-long}
@@ -31,10 +31,6 @@ pub record Invariant (past : List ℕ) (s : Tracker) : Type 0 where
   pub clean : Clean (needed (s .kept .settings .buckets)) (s .kept .settings .start) (s .kept .numbers .references) (s .kept .threshold) (s .tables .histogram)
   pub live-is : s .kept .live ≡ length (liveOf s)
   pub references-is : s .kept .numbers .references ≡ length past
-
--- the profile's buckets are cut at its point sizes
-pub cut : (s : Settings) → InRange s → Cut (profileOf s)
-cut s r = widths-cut (s .width) (s .buckets) (omega (arith, r .width-low))
 
 pub invariant-fresh : (s : Settings) (t : Tables) → outOfRange s ≡ false → tooShort s t ≡ false → Invariant [] (fresh s t)
 invariant-fresh s t e l =
@@ -77,7 +73,7 @@ module _ (past : List ℕ) (s : Tracker) (v : Invariant past s) (x : ℕ) where
   -- the bucket that a reference would record in is not torn
   pub bucket-clean : tornFor x s ≡ false
   bucket-clean = cases (under (hashFor set) (s .kept .threshold) x)
-      (λ e. rw e (at _ (bucket-needed (profileOf set) (cut set (bounds .range) .far) (s .kept .threshold) (firstPlace x (liveOf s)))))
+      (λ e. rw e (at _ (bucket-needed (profileOf set) (profile-cut set (bounds .range) .far) (s .kept .threshold) (firstPlace x (liveOf s)))))
       (λ e. rw e)
     where
       at : (j : ℕ) → j < needed (set .buckets) → tornAt (s .kept .numbers .references) (s .kept .threshold) j (s .tables .histogram) ≡ false
@@ -102,7 +98,7 @@ module _ (past : List ℕ) (s : Tracker) (v : Invariant past s) (x : ℕ) where
     record-whole = left-whole x s a;
     tables-long = left-long x s a;
     tracked = rw (sample-stored (stepOf x s) s) (tracked-step (hashFor set) (set .limit) (set .start) x past (sampleOf s) (v .tracked) (profileOf set));
-    clean = rw (counted-one (stepOf x s .reply)) (clean-step (hashFor set) (set .limit) (profileOf set) (cut set (bounds .range) .far) x (sampleOf s) (set .start) (s .kept .numbers .references) (bounds .threshold-high) (v .clean));
+    clean = rw (counted-one (stepOf x s .reply)) (clean-step (hashFor set) (set .limit) (profileOf set) (profile-cut set (bounds .range) .far) x (sampleOf s) (set .start) (s .kept .numbers .references) (bounds .threshold-high) (v .clean));
     live-is = ap length (sym (over-front (stepOf x s .left .live) (s .tables .locations)));
     references-is = counted-one (stepOf x s .reply) ∙ (let q : s .kept .numbers .references + 1 ≡ suc (length past) = omega (arith, v .references-is) in q);
   }

@@ -7,7 +7,7 @@ use native.Mathlib.Omega.{arith}
 use lib.Dec.{eqb}
 use lib.ListN.{length}
 use borrow.Author.Tests.{eq-eqb, ne-eqb, le-ltb}
-use Rattle.rules.specs.Settings.{Histogram, needed, fullRate}
+use Rattle.rules.specs.Settings.{Histogram, needed, fullRate, oneReference}
 use Rattle.rules.specs.Curve.{sumTo, totalOf}
 use Rattle.rules.specs.Answers.{gives}
 use Rattle.rules.specs.Layout.{Tracker, sampleOf, hashFor, profileOf}
@@ -22,11 +22,11 @@ use Rattle.rules.proofs.History.{recency-once}
 use Rattle.rules.proofs.Bounds.{whole, not-torn, all-long, buckets-none-short}
 use Rattle.rules.proofs.Clean.{Clean}
 use Rattle.rules.proofs.Steps.{Tracked}
-use Rattle.rules.proofs.FullRate.{Exact, exact-report, exact-step, threshold-stays}
+use Rattle.rules.proofs.FullRate.{profile-cut, Exact, exact-report, exact-step, threshold-stays}
 use Rattle.rules.proofs.Fresh.{exact-fresh}
 use Rattle.demands.specs.Runs.{Run}
-use Rattle.demands.specs.Statements.{FullRate, OnlyPointOrEmpty}
-use Rattle.demands.proofs.Invariant.{invariant, by-run, cut}
+use Rattle.demands.specs.Statements.{sizeAt, FullRate, OnlyPointOrEmpty}
+use Rattle.demands.proofs.Invariant.{invariant, by-run}
 
 -- clean buckets are not torn at a report
 none-torn : (n start references t : ℕ) (g : Histogram) → start ≤ fullRate → Clean n start references t g → (m : ℕ) → m ≤ n → anyTorn references t m g ≡ false
@@ -72,7 +72,7 @@ exact run = by-run (λ past s rs. ExactIn past s)
     let set = s .kept .settings in
     let k : Tracked (hashFor set) (set .limit) fullRate past (sampleOf s) = subst (λ z. Tracked (hashFor set) (set .limit) z past (sampleOf s)) p (v .tracked) in
     let m : length (recency past) ≤ set .limit = omega (arith, recency-grows x past) in
-    exact-step (hashFor set) (hash-below (set .hashing)) (set .limit) (profileOf set) (cut set (whole (s .kept) (v .record-whole) .range)) x past (sampleOf s) k m (length past) (e p m)) run
+    exact-step (hashFor set) (hash-below (set .hashing)) (set .limit) (profileOf set) (profile-cut set (whole (s .kept) (v .record-whole) .range)) x past (sampleOf s) k m (length past) (e p m)) run
 
 pub full-rate : FullRate
 unfolding ExactIn
@@ -83,14 +83,14 @@ full-rate past s run p n k l =
     let e = exact run p n in
     let still : s .kept .threshold ≡ fullRate =
     threshold-stays (hashFor set) (hash-below (set .hashing)) (set .limit) past (s .kept .threshold) (subst (λ z. Largest (hashFor set) (set .limit) z past (s .kept .threshold)) p (v .tracked .threshold-is)) n in
-    let total : totalOf (s .kept .threshold) (set .buckets) g ≡ 256 * length past =
+    let total : totalOf (s .kept .threshold) (set .buckets) g ≡ oneReference * length past =
     ap (λ t. sumTo t (needed (set .buckets)) g) still ∙ exact-report (profileOf set) _ _ g e (needed (set .buckets)) (omega arith) ∙ e .total in
-    let below : sumTo (s .kept .threshold) k g ≡ 256 * hits (k * set .width) past =
+    let below : sumTo (s .kept .threshold) k g ≡ oneReference * hits (sizeAt s k) past =
     ap (λ t. sumTo t k g) still ∙ exact-report (profileOf set) _ _ g e k (omega arith) ∙ e .below k l in
     record {
       some-made = λ m. only-point-or-empty past s k run
           ∙ rw (le-ltb _ _ l, ne-eqb (totalOf (s .kept .threshold) (set .buckets) g) 0 (λ z. omega arith))
-          (λ i. gives (record { size = k * set .width; hits = below i; misses = total i - below i; total = total i }));
+          (λ i. gives (record { size = sizeAt s k; hits = below i; misses = total i - below i; total = total i }));
       none-made = λ q. only-point-or-empty past s k run
-          ∙ rw (le-ltb _ _ l, eq-eqb (totalOf (s .kept .threshold) (set .buckets) g) 0 (total ∙ ap (λ z. 256 * length z) q));
+          ∙ rw (le-ltb _ _ l, eq-eqb (totalOf (s .kept .threshold) (set .buckets) g) 0 (total ∙ ap (λ z. oneReference * length z) q));
     }

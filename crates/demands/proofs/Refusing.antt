@@ -16,7 +16,7 @@ use Rattle.rules.specs.Settings.{Tables, withDefaults, outOfRange}
 use Rattle.rules.specs.Reference.{Reply, under, firstPlace, bucketFor, step}
 use Rattle.rules.specs.Answers.{refused, gives}
 use Rattle.rules.specs.Order.{Judged, _when_, says, leaves}
-use Rattle.rules.specs.Events.{settingsOf}
+use Rattle.rules.specs.Events.{settingsOf, blockBytes}
 use Rattle.rules.specs.Layout.{Tracker, hashFor, profileOf, counted, stored, freshBuckets, freshTables, freshRecord, fresh}
 use Rattle.rules.specs.Conditions.{bucketsTooShort, tooShort, tornRecord, tornAt, tornFor, full, stale}
 use Rattle.rules.specs.Calls.{setupOrder, setupOf, restartOrder, restartOf, stepOf, referOrder, referOf, startedOver, goingOn, referAll, applyOf}
@@ -29,13 +29,13 @@ use Rattle.demands.specs.Refusing.{Untouched, InOrder, NeverZero, StaleB
 
 abbrev applyOrder : Event → Tracker → List Judged
 applyOrder (Location x) s = referOrder x s
-applyOrder (Span offset length) s = cond (eqb length 0) [] (referOrder (offset / 4096) s)
+applyOrder (Span offset length) s = cond (eqb length 0) [] (referOrder (offset / blockBytes) s)
 applyOrder Restart s = restartOrder (s .kept) (s .tables)
 applyOrder (Setup b) s = setupOrder (settingsOf b) (s .tables)
 
 abbrev applyAfter : Event → Tracker → Tracker
 applyAfter (Location x) s = stored (stepOf x s) s
-applyAfter (Span offset length) s = cond (eqb length 0) s (stored (stepOf (offset / 4096) s) s)
+applyAfter (Span offset length) s = cond (eqb length 0) s (stored (stepOf (offset / blockBytes) s) s)
 applyAfter Restart s = fresh (s .kept .settings) (s .tables)
 applyAfter (Setup b) s = fresh (withDefaults (settingsOf b)) (s .tables)
 
@@ -52,7 +52,7 @@ apply-is : (e : Event) (s : Tracker) → applyOf e s ≡ record { result = says 
 unfolding applyOf referAll referOf restartOf setupOf
 apply-is (Location x) s = one-is (referOrder x s) (stepOf x s .reply) (leaves (referOrder x s) s (stored (stepOf x s) s))
 apply-is (Span offset length) s = cases (eqb length 0) (λ z. rw z)
-    (λ z. rw z (let x = offset / 4096 in one-is (referOrder x s) (stepOf x s .reply) (leaves (referOrder x s) s (stored (stepOf x s) s))))
+    (λ z. rw z (let x = offset / blockBytes in one-is (referOrder x s) (stepOf x s .reply) (leaves (referOrder x s) s (stored (stepOf x s) s))))
 apply-is Restart s = let set = s .kept .settings in started-is (restartOrder (s .kept) (s .tables)) (s .kept) (freshRecord set) (s .tables) (freshTables set (s .tables))
 apply-is (Setup b) s = let set = withDefaults (settingsOf b) in started-is (setupOrder (settingsOf b) (s .tables)) (s .kept) (freshRecord set) (s .tables) (freshTables set (s .tables))
 
@@ -141,13 +141,13 @@ module _ (s t : Tracker) (a : Agree s t) where
 
   apply-order : (e : Event) → applyOrder e s ≡ applyOrder e t
   apply-order (Location x) = refer-order x
-  apply-order (Span offset length) = ap (cond (eqb length 0) []) (refer-order (offset / 4096))
+  apply-order (Span offset length) = ap (cond (eqb length 0) []) (refer-order (offset / blockBytes))
   apply-order Restart = restart-order
   apply-order (Setup b) = setup-order (settingsOf b)
 
   apply-after : (e : Event) → Agree (applyAfter e s) (applyAfter e t)
   apply-after (Location x) = stored-agree x
-  apply-after (Span offset length) = cases (eqb length 0) (λ z. rw z a) (λ z. rw z (stored-agree (offset / 4096)))
+  apply-after (Span offset length) = cases (eqb length 0) (λ z. rw z a) (λ z. rw z (stored-agree (offset / blockBytes)))
   apply-after Restart = fresh-alike _ _ same-settings
   apply-after (Setup b) = fresh-alike _ _ refl
 

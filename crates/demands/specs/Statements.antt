@@ -8,7 +8,7 @@ use lib.ListN.{length}
 use Rattle.rules.specs.declared.Settings.{Settings}
 use Rattle.rules.specs.declared.Event.{Event}
 use Rattle.rules.specs.Lists.{keep, has, upto}
-use Rattle.rules.specs.Settings.{needed, mostReferences, fullRate}
+use Rattle.rules.specs.Settings.{needed, mostReferences, fullRate, oneReference}
 use Rattle.rules.specs.Reference.{Reply, skipped, first, again, countAt, thresholdAt}
 use Rattle.rules.specs.Curve.{rawTo, totalOf, curvePoint}
 use Rattle.rules.specs.Answers.{refused, gives}
@@ -66,12 +66,15 @@ Numbers = (past : List ℕ) (s : Tracker) (run : Run past s) → Numbered past s
 
 -- "In a run from a fresh start at full rate, record and tables untouched, with the sample limit never exceeded, each point's hits, in the
 -- rules' count units, are exactly those of a least-recently-used cache of that size fed the same trace."
+abbrev pub sizeAt : Tracker → (point : ℕ) → ℕ
+sizeAt s k = profileOf (s .kept .settings) .size k
+
 pub record LikeLru (past : List ℕ) (s : Tracker) (k : ℕ) : Type 0 where
   pub some-made : 0 < length past → ownPoint (s .kept) k (s .tables .histogram) ≡ gives (record {
-    size = k * s .kept .settings .width;
-    hits = 256 * hits (k * s .kept .settings .width) past;
-    misses = 256 * length past - 256 * hits (k * s .kept .settings .width) past;
-    total = 256 * length past;
+    size = sizeAt s k;
+    hits = oneReference * hits (sizeAt s k) past;
+    misses = oneReference * length past - oneReference * hits (sizeAt s k) past;
+    total = oneReference * length past;
   })
   pub none-made : past ≡ [] → ownPoint (s .kept) k (s .tables .histogram) ≡ refused 9
 
@@ -107,8 +110,8 @@ pub record Bounded (s : Tracker) (j : ℕ) : Type 0 where
   pub at-least-one : 0 < thresholdAt j (s .tables .histogram)
   pub not-below : s .kept .threshold ≤ thresholdAt j (s .tables .histogram)
   pub not-above : thresholdAt j (s .tables .histogram) ≤ s .kept .settings .start
-  pub count-high : countAt j (s .tables .histogram) ≤ 256 * s .kept .numbers .references
-  pub raw-high : rawTo (needed (s .kept .settings .buckets)) (s .tables .histogram) ≤ 256 * s .kept .numbers .references
+  pub count-high : countAt j (s .tables .histogram) ≤ oneReference * s .kept .numbers .references
+  pub raw-high : rawTo (needed (s .kept .settings .buckets)) (s .tables .histogram) ≤ oneReference * s .kept .numbers .references
 
 abbrev pub Bounds : Type 0
 Bounds = (past : List ℕ) (s : Tracker) → Run past s → (j : ℕ) → j < needed (s .kept .settings .buckets) → Bounded s j

@@ -20,8 +20,9 @@ use words::point_words;
 use words::record_of;
 use words::started_words;
 ghost use mathlib.Core.Path.{_≡_};
-ghost use Rattle.rules.specs.Layout.{bucketsOf, tablesOf};
-ghost use Rattle.driver.specs.Calls.{started, setupIn, restartIn, settingsFrom, hashIn, setupBodyFrom, referred, referIn, given, shapeFrom, pointIn, plotIn, readIn, writeIn};
+ghost use Rattle.rules.specs.Lent.{tablesBefore, bucketsBefore, tablesAfter};
+ghost use Rattle.driver.specs.Calls.{settingsFrom, shapeFrom, setupBodyFrom, started, referred, given};
+ghost use Rattle.driver.specs.Calls.{hashIn, setupIn, restartIn, referIn, pointIn, plotIn, readIn, writeIn};
 
 // The settings asked for: a zero stands for its default, except the hash kind.
 #[repr(C)]
@@ -78,7 +79,8 @@ pub extern "C" fn rockgingham_setup(
     counts: &mut [u64],
     thresholds: &mut [u32],
 ) -> u64
-    ensures { λ r. ⌜ started r (now (words .exit)) (tablesOf (now (locations .entry)) (now (counts .exit)) (now (thresholds .exit))) ≡ setupIn (settingsFrom asked) (now (words .entry)) (tablesOf (now (locations .entry)) (now (counts .entry)) (now (thresholds .entry))) ⌝ }
+    ensures { λ r. ⌜ started r (now (words .exit)) (tablesAfter locations counts thresholds)
+        ≡ setupIn (settingsFrom asked) (now (words .entry)) (tablesBefore locations counts thresholds) ⌝ }
 {
     let answer = setup::setup(settings_from(asked), locations, counts, thresholds);
     *words = started_words(answer, *words);
@@ -93,7 +95,8 @@ pub extern "C" fn rockgingham_restart(
     counts: &mut [u64],
     thresholds: &mut [u32],
 ) -> u64
-    ensures { λ r. ⌜ started r (now (words .exit)) (tablesOf (now (locations .entry)) (now (counts .exit)) (now (thresholds .exit))) ≡ restartIn (now (words .entry)) (tablesOf (now (locations .entry)) (now (counts .entry)) (now (thresholds .entry))) ⌝ }
+    ensures { λ r. ⌜ started r (now (words .exit)) (tablesAfter locations counts thresholds)
+        ≡ restartIn (now (words .entry)) (tablesBefore locations counts thresholds) ⌝ }
 {
     let answer = setup::restart(record_of(*words), locations, counts, thresholds);
     *words = started_words(answer, *words);
@@ -110,7 +113,8 @@ pub extern "C" fn rockgingham_refer(
     counts: &mut [u64],
     thresholds: &mut [u32],
 ) -> u64
-    ensures { λ r. ⌜ referred r (now (words .exit)) (now (answer .exit)) (tablesOf (now (locations .exit)) (now (counts .exit)) (now (thresholds .exit))) ≡ referIn location (now (words .entry)) (now (answer .entry)) (tablesOf (now (locations .entry)) (now (counts .entry)) (now (thresholds .entry))) ⌝ }
+    ensures { λ r. ⌜ referred r (now (words .exit)) (now (answer .exit)) (tablesAfter locations counts thresholds)
+        ≡ referIn location (now (words .entry)) (now (answer .entry)) (tablesBefore locations counts thresholds) ⌝ }
 {
     let r = refer::refer(record_of(*words), location, locations, counts, thresholds);
     let reply = r.answer;
@@ -133,7 +137,8 @@ pub extern "C" fn rockgingham_point(
     counts: &[u64],
     thresholds: &[u32],
 ) -> u64
-    ensures { λ r. ⌜ given r (now (point .exit)) ≡ pointIn (now (words .entry)) (shapeFrom believed) number (bucketsOf (now (counts .entry)) (now (thresholds .entry))) (now (point .entry)) ⌝ }
+    ensures { λ r. ⌜ given r (now (point .exit))
+        ≡ pointIn (now (words .entry)) (shapeFrom believed) number (bucketsBefore counts thresholds) (now (point .entry)) ⌝ }
 {
     let shape = shape_from(believed);
     let answer = points::point(record_of(*words), shape, number, counts, thresholds);
@@ -151,7 +156,8 @@ pub extern "C" fn rockgingham_plot(
     counts: &[u64],
     thresholds: &[u32],
 ) -> u64
-    ensures { λ r. ⌜ given r (now (pair .exit)) ≡ plotIn (now (words .entry)) (shapeFrom believed) number (bucketsOf (now (counts .entry)) (now (thresholds .entry))) (now (pair .entry)) ⌝ }
+    ensures { λ r. ⌜ given r (now (pair .exit))
+        ≡ plotIn (now (words .entry)) (shapeFrom believed) number (bucketsBefore counts thresholds) (now (pair .entry)) ⌝ }
 {
     let shape = shape_from(believed);
     let answer = points::plot_point(record_of(*words), shape, number, counts, thresholds);
@@ -204,7 +210,8 @@ pub extern "C" fn rockgingham_write_setup(
     kind: u8,
     buffer: &mut [u8],
 ) -> u64
-    ensures { λ r. ⌜ given r (now (buffer .exit)) ≡ writeIn (Event.Setup (setupBodyFrom limit start width buckets kind)) (now (buffer .entry)) ⌝ }
+    ensures { λ r. ⌜ given r (now (buffer .exit))
+        ≡ writeIn (Event.Setup (setupBodyFrom limit start width buckets kind)) (now (buffer .entry)) ⌝ }
 {
     let body = SetupBody {
         limit,

@@ -13,7 +13,7 @@ use Rattle.rules.specs.declared.Event.the-variants.{Location, Span, Restart, Se
 use Rattle.rules.specs.Settings.{withDefaults}
 use Rattle.rules.specs.Answers.{Result, refused, gives, Got}
 use Rattle.rules.specs.Order.{Outcome, outcome}
-use Rattle.rules.specs.Events.{readOf, settingsOf}
+use Rattle.rules.specs.Events.{readOf, settingsOf, blockBytes}
 use Rattle.rules.specs.Layout.{Tracker, stored, fresh}
 use Rattle.rules.specs.Calls.{stepOf, referAll, applyOf}
 use Rattle.rules.proofs.Tests.{cases, clash}
@@ -50,7 +50,7 @@ module _ {C : Type 0} (s : Tracker) where
   apply-either (Location x) f g = one-reference (Location x) f g x refl (λ past. refl) refl
   apply-either (Span offset n) f g = cases (eqb n 0)
       (λ z. no-reference (Span offset n) f g (rw z) (λ past. rw z) refl)
-      (λ z. one-reference (Span offset n) f g (offset / 4096) (rw z) (λ past. rw z) refl)
+      (λ z. one-reference (Span offset n) f g (offset / blockBytes) (rw z) (λ past. rw z) refl)
   apply-either Restart f g = restart-either (s .kept) (s .tables)
       (λ b. f (fresh (s .kept .settings) (s .tables)) (record { is = rw (b .is); runs = λ past r. restart (s .kept) (s .tables) (b .is); begins = λ t past. restart (s .kept) (s .tables) (b .is) }))
       (λ n q. g n (rw q))

@@ -5,7 +5,7 @@ use rules::Refusal;
 use rules::Taken;
 ghost use mathlib.Core.Path.{_≡_};
 ghost use Rattle.rules.specs.Answers.{number};
-ghost use Rattle.rules.specs.Layout.{tracker};
+ghost use Rattle.rules.specs.Lent.{trackerBefore};
 ghost use Rattle.feed.specs.Feed.{unreadable, feedOf, endingResult, afterFed};
 
 // Why no more bytes were taken: they end after a whole event, or inside one, or an event was refused.
@@ -40,7 +40,8 @@ pub fn feed(
     counts: &mut [u64],
     thresholds: &mut [u32],
 ) -> Fed
-    ensures { λ r. ⌜ afterFed r (now (locations .exit)) (now (counts .exit)) (now (thresholds .exit)) ≡ feedOf (now (bytes .entry)) (tracker kept (now (locations .entry)) (now (counts .entry)) (now (thresholds .entry))) ⌝ }
+    ensures { λ r. ⌜ afterFed r (now (locations .exit)) (now (counts .exit)) (now (thresholds .exit))
+        ≡ feedOf (now (bytes .entry)) (trackerBefore kept locations counts thresholds) ⌝ }
 {
     let mut at: usize = 0;
     let mut latest = kept;

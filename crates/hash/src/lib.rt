@@ -1,4 +1,5 @@
 // The hash of a location, by kind.
+use rules::FULL_RATE;
 use rules::Hashing;
 ghost use mathlib.Core.Path.{_≡_};
 ghost use Prim.Native.Nat.{_*_, _%_, _^_};
@@ -38,8 +39,8 @@ pub fn hash_of(hashing: Hashing, location: u64) -> u64
     ensures { λ r. ⌜ r ≡ hashOf hashing location ⌝ }
 {
     if hashing.kind == 0 {
-        location % 0x100_0000
+        location % FULL_RATE
     } else {
-        finaliser(location) % 0x100_0000
+        finaliser(location) % FULL_RATE
     }
 }

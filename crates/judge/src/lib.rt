@@ -1,4 +1,10 @@
 // What a call judges before it does anything, each test once, and the refusals' numbers. Every function takes anything.
+use rules::FULL_RATE;
+use rules::MOST_BUCKETS;
+use rules::MOST_KIND;
+use rules::MOST_LIMIT;
+use rules::MOST_REFERENCES;
+use rules::MOST_WIDTH;
 use rules::Record;
 use rules::Refusal;
 use rules::Settings;
@@ -7,8 +13,8 @@ ghost use mathlib.Core.Path.{_≡_};
 ghost use lib.Dec.{ltb};
 ghost use Rattle.rules.specs.Settings.{outOfRange, needed};
 ghost use Rattle.rules.specs.Answers.{number};
-ghost use Rattle.rules.specs.Layout.{bucketsOf, tablesOf};
 ghost use Rattle.rules.specs.Conditions.{bucketsTooShort, tooShort, tornRecord, stale};
+ghost use Rattle.rules.specs.Lent.{tablesBefore, bucketsBefore};
 
 // A refusal's number, for who answers in numbers.
 pub fn number_of(why: Refusal) -> u64
@@ -32,14 +38,14 @@ pub fn out_of_range(s: Settings) -> bool
     ensures { λ r. ⌜ r ≡ outOfRange s ⌝ }
 {
     (s.limit == 0)
-        | (8192 < s.limit)
+        | (MOST_LIMIT < s.limit)
         | (s.start == 0)
-        | (0x100_0000 < s.start)
+        | (FULL_RATE < s.start)
         | (s.width == 0)
-        | (0xffff_ffff < s.width)
+        | (MOST_WIDTH < s.width)
         | (s.buckets == 0)
-        | (10000 < s.buckets)
-        | (1 < s.hashing.kind)
+        | (MOST_BUCKETS < s.buckets)
+        | (MOST_KIND < s.hashing.kind)
 }
 
 // Whether a record is torn.
@@ -51,7 +57,7 @@ pub fn torn(kept: Record) -> bool
         | (s.limit < kept.live)
         | (s.start < kept.threshold)
         | (kept.numbers.references < kept.numbers.sampled)
-        | (0xffff_ffff < kept.numbers.references)
+        | (MOST_REFERENCES < kept.numbers.references)
 }
 
 // Whether a bucket table of so many entries is too short for so many buckets. No table is as long as the sum that would wrap.
@@ -66,14 +72,14 @@ fn shorter(entries: u64, buckets: u64) -> bool
 
 // Whether a bucket table is too short.
 pub fn buckets_too_short(s: Settings, counts: &[u64], thresholds: &[u32]) -> bool
-    ensures { λ r. ⌜ r ≡ bucketsTooShort s (bucketsOf (now (counts .entry)) (now (thresholds .entry))) ⌝ }
+    ensures { λ r. ⌜ r ≡ bucketsTooShort s (bucketsBefore counts thresholds) ⌝ }
 {
     shorter(counts.len() as u64, s.buckets) | shorter(thresholds.len() as u64, s.buckets)
 }
 
 // Whether a table is too short.
 pub fn too_short(s: Settings, locations: &[u64], counts: &[u64], thresholds: &[u32]) -> bool
-    ensures { λ r. ⌜ r ≡ tooShort s (tablesOf (now (locations .entry)) (now (counts .entry)) (now (thresholds .entry))) ⌝ }
+    ensures { λ r. ⌜ r ≡ tooShort s (tablesBefore locations counts thresholds) ⌝ }
 {
     ((locations.len() as u64) < s.limit) | buckets_too_short(s, counts, thresholds)
 }

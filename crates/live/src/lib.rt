@@ -106,7 +106,8 @@ pub fn lower(
     threshold: u64,
     location: u64,
 ) -> Lowered
-    ensures { λ r. ⌜ lowering r (now (locations .exit)) ≡ loweringOf (hashOf hashing) threshold n location (now (locations .entry)) ⌝ }
+    ensures { λ r. ⌜ lowering r (now (locations .exit))
+        ≡ loweringOf (hashOf hashing) threshold n location (now (locations .entry)) ⌝ }
 {
     let own = hash::hash_of(hashing, location);
     let others = largest_hash(locations, n, hashing);

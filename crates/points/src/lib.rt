@@ -12,14 +12,15 @@ use rules::Shape;
 use rules::Sums;
 ghost use mathlib.Core.Path.{_≡_};
 ghost use Prim.Native.Nat.{_≤_};
+ghost use Rattle.rules.specs.Settings.{mostBuckets, mostWidth};
 ghost use Rattle.rules.specs.Answers.{pointResult, plotResult};
-ghost use Rattle.rules.specs.Layout.{bucketsOf};
 ghost use Rattle.rules.specs.Calls.{pointOf, plotOf};
+ghost use Rattle.rules.specs.Lent.{bucketsBefore};
 ghost use Rattle.points.specs.Points.{fromSums};
 
 // The point, from the report's sums.
 fn point_of(s: Settings, number: u64, sums: Sums) -> Pointed
-    requires { ⌜ (number ≤ 10000) × (s .width ≤ 4294967295) × (sums .hits ≤ sums .total) ⌝ }
+    requires { ⌜ (number ≤ mostBuckets) × (s .width ≤ mostWidth) × (sums .hits ≤ sums .total) ⌝ }
     ensures { λ r. ⌜ pointResult r ≡ fromSums s number sums ⌝ }
 {
     if sums.total == 0 {
@@ -41,7 +42,7 @@ pub fn point(
     counts: &[u64],
     thresholds: &[u32],
 ) -> Pointed
-    ensures { λ r. ⌜ pointResult r ≡ pointOf kept believed number (bucketsOf (now (counts .entry)) (now (thresholds .entry))) ⌝ }
+    ensures { λ r. ⌜ pointResult r ≡ pointOf kept believed number (bucketsBefore counts thresholds) ⌝ }
 {
     if judge::torn(kept) {
         return Pointed::Refused(Refusal::Torn);
@@ -79,7 +80,7 @@ pub fn plot_point(
     counts: &[u64],
     thresholds: &[u32],
 ) -> Plotted
-    ensures { λ r. ⌜ plotResult r ≡ plotOf kept believed number (bucketsOf (now (counts .entry)) (now (thresholds .entry))) ⌝ }
+    ensures { λ r. ⌜ plotResult r ≡ plotOf kept believed number (bucketsBefore counts thresholds) ⌝ }
 {
     match point(kept, believed, number, counts, thresholds) {
         Pointed::At(p) => Plotted::At(PlotPoint {

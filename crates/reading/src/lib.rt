@@ -5,8 +5,12 @@ ghost use lib.ListN.{length, drop};
 ghost use Rattle.rules.specs.Answers.{readingResult};
 ghost use Rattle.rules.specs.Events.{numberAt, setupBodyOf, whole, readOf, unreadOf};
 use rules::Event;
+use rules::LOCATION_BYTES;
+use rules::RESTART_BYTES;
 use rules::Reading;
 use rules::Refusal;
+use rules::SETUP_BYTES;
+use rules::SPAN_BYTES;
 use rules::SetupBody;
 
 // The number in the bytes from a place on: one, two, four, eight of them.
@@ -47,27 +51,28 @@ fn eight_at(bytes: &[u8], at: usize) -> u64
 fn read_location(bytes: &[u8]) -> Reading
     ensures { λ r. ⌜ readingResult r ≡ whole 9 (Event.Location (numberAt 8 1 (now (bytes .entry)))) (now (bytes .entry)) ⌝ }
 {
-    if bytes.len() < 9 {
+    if bytes.len() < LOCATION_BYTES {
         return Reading::Refused(Refusal::Short);
     }
-    Reading::Got(Event::Location(eight_at(bytes, 1)), 9)
+    Reading::Got(Event::Location(eight_at(bytes, 1)), LOCATION_BYTES)
 }
 
 fn read_span(bytes: &[u8]) -> Reading
-    ensures { λ r. ⌜ readingResult r ≡ whole 13 (Event.Span (numberAt 8 1 (now (bytes .entry))) (numberAt 4 9 (now (bytes .entry)))) (now (bytes .entry)) ⌝ }
+    ensures { λ r. ⌜ readingResult r
+        ≡ whole 13 (Event.Span (numberAt 8 1 (now (bytes .entry))) (numberAt 4 9 (now (bytes .entry)))) (now (bytes .entry)) ⌝ }
 {
-    if bytes.len() < 13 {
+    if bytes.len() < SPAN_BYTES {
         return Reading::Refused(Refusal::Short);
     }
     let offset = eight_at(bytes, 1);
     let length = four_at(bytes, 9);
-    Reading::Got(Event::Span { offset, length }, 13)
+    Reading::Got(Event::Span { offset, length }, SPAN_BYTES)
 }
 
 fn read_setup(bytes: &[u8]) -> Reading
     ensures { λ r. ⌜ readingResult r ≡ whole 18 (Event.Setup (setupBodyOf (now (bytes .entry)))) (now (bytes .entry)) ⌝ }
 {
-    if bytes.len() < 18 {
+    if bytes.len() < SETUP_BYTES {
         return Reading::Refused(Refusal::Short);
     }
     let body = SetupBody {
@@ -77,7 +82,7 @@ fn read_setup(bytes: &[u8]) -> Reading
         buckets: four_at(bytes, 13),
         kind: one_at(bytes, 17),
     };
-    Reading::Got(Event::Setup(body), 18)
+    Reading::Got(Event::Setup(body), SETUP_BYTES)
 }
 
 // The first event of the bytes, with the number of bytes it took.
@@ -91,7 +96,7 @@ pub fn read(bytes: &[u8]) -> Reading
     match kind {
         1 => read_location(bytes),
         2 => read_span(bytes),
-        3 => Reading::Got(Event::Restart, 1),
+        3 => Reading::Got(Event::Restart, RESTART_BYTES),
         4 => read_setup(bytes),
         _ => Reading::Refused(Refusal::Kind),
     }

@@ -46,7 +46,7 @@ module _ (x : ℕ) (kept : Record) (ls cs ts : List ℕ) (w : Samples x (tracker
   long = all-long (kept .settings) (s .tables) (w .tables-long)
 
   -- it can be counted, as sampled too
-  pub countable : (kept .numbers .references < 4294967295) × (kept .numbers .sampled ≤ kept .numbers .references) × (1 ≤ 1)
+  pub countable : (kept .numbers .references < mostReferences) × (kept .numbers .sampled ≤ kept .numbers .references) × (1 ≤ 1)
   countable = (omega (arith, bounds .references-high, eqb-false (kept .numbers .references) mostReferences (w .room)), bounds .sampled-high, omega arith)
 
   pub threshold-some : 0 < kept .threshold

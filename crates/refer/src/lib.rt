@@ -2,7 +2,9 @@
 // any location.
 use live::Lowered;
 use rules::Answer;
+use rules::FULL_RATE;
 use rules::Found;
+use rules::MOST_REFERENCES;
 use rules::Numbers;
 use rules::Record;
 use rules::Referred;
@@ -10,11 +12,13 @@ use rules::Refusal;
 ghost use mathlib.Core.Path.{_≡_};
 ghost use mathlib.Core.Option.{some, none};
 ghost use Prim.Native.Nat.{_<_, _≤_};
+ghost use Rattle.rules.specs.Settings.{mostReferences, mostBuckets, mostLimit};
 ghost use Rattle.rules.specs.Reference.{widths, firstPlace, scaledDistance};
 ghost use Rattle.rules.specs.Answers.{replyResult};
 ghost use Rattle.rules.specs.Order.{outcome};
 ghost use Rattle.rules.specs.Layout.{tracker, liveOf};
 ghost use Rattle.rules.specs.Calls.{referOf};
+ghost use Rattle.rules.specs.Lent.{trackerAfter, trackerBefore};
 ghost use Rattle.refer.specs.Refer.{referredOf, countedIn, enteredOf, Samples};
 ghost use Rattle.live.specs.Live.{lowering};
 
@@ -30,7 +34,8 @@ fn refused(kept: Record, why: Refusal) -> Referred
 
 // The record after a reference that was answered so, with this threshold and so many live.
 fn counted_in(kept: Record, threshold: u64, live: u64, sampled: u64) -> Record
-    requires { ⌜ (kept .numbers .references < 4294967295) × (kept .numbers .sampled ≤ kept .numbers .references) × (sampled ≤ 1) ⌝ }
+    requires { ⌜ (kept .numbers .references < mostReferences) × (kept .numbers .sampled ≤ kept .numbers .references)
+        × (sampled ≤ 1) ⌝ }
     ensures { λ r. ⌜ r ≡ countedIn kept threshold live sampled ⌝ }
 {
     let s = kept.settings;
@@ -47,10 +52,10 @@ fn counted_in(kept: Record, threshold: u64, live: u64, sampled: u64) -> Record
 
 // The bucket of a place in the live list: that of its scaled distance, or far.
 fn bucket_of(place: usize, threshold: u64, width: u64, buckets: u64) -> usize
-    requires { ⌜ (place < 8192) × (0 < threshold) × (0 < width) × (buckets ≤ 10000) ⌝ }
+    requires { ⌜ (place < mostLimit) × (0 < threshold) × (0 < width) × (buckets ≤ mostBuckets) ⌝ }
     ensures { λ r. ⌜ r ≡ widths width buckets .bucketOf (scaledDistance threshold place) ⌝ }
 {
-    let bucket = (place as u64) * 0x100_0000 / threshold / width;
+    let bucket = (place as u64) * FULL_RATE / threshold / width;
     if buckets <= bucket {
         return buckets as usize;
     }
@@ -66,8 +71,10 @@ fn again_at(
     counts: &mut [u64],
     thresholds: &mut [u32],
 ) -> Referred
-    requires { ⌜ Samples location (tracker kept (now locations) (now counts) (now thresholds)) × (firstPlace location (liveOf (tracker kept (now locations) (now counts) (now thresholds))) ≡ some place) ⌝ }
-    ensures { λ r. ⌜ outcome (replyResult (r .answer)) (tracker (r .kept) (now (locations .exit)) (now (counts .exit)) (now (thresholds .exit))) ≡ referOf location (tracker kept (now (locations .entry)) (now (counts .entry)) (now (thresholds .entry))) ⌝ }
+    requires { ⌜ Samples location (tracker kept (now locations) (now counts) (now thresholds))
+        × (firstPlace location (liveOf (tracker kept (now locations) (now counts) (now thresholds))) ≡ some place) ⌝ }
+    ensures { λ r. ⌜ outcome (replyResult (r .answer)) (trackerAfter (r .kept) locations counts thresholds)
+        ≡ referOf location (trackerBefore kept locations counts thresholds) ⌝ }
 {
     let threshold = kept.threshold;
     let bucket = bucket_of(place, threshold, kept.settings.width, kept.settings.buckets);
@@ -113,8 +120,10 @@ fn first_time(
     counts: &mut [u64],
     thresholds: &mut [u32],
 ) -> Referred
-    requires { ⌜ Samples location (tracker kept (now locations) (now counts) (now thresholds)) × (firstPlace location (liveOf (tracker kept (now locations) (now counts) (now thresholds))) ≡ none) ⌝ }
-    ensures { λ r. ⌜ outcome (replyResult (r .answer)) (tracker (r .kept) (now (locations .exit)) (now (counts .exit)) (now (thresholds .exit))) ≡ referOf location (tracker kept (now (locations .entry)) (now (counts .entry)) (now (thresholds .entry))) ⌝ }
+    requires { ⌜ Samples location (tracker kept (now locations) (now counts) (now thresholds))
+        × (firstPlace location (liveOf (tracker kept (now locations) (now counts) (now thresholds))) ≡ none) ⌝ }
+    ensures { λ r. ⌜ outcome (replyResult (r .answer)) (trackerAfter (r .kept) locations counts thresholds)
+        ≡ referOf location (trackerBefore kept locations counts thresholds) ⌝ }
 {
     let threshold = kept.threshold;
     let bucket = (kept.settings.buckets + 1) as usize;
@@ -139,7 +148,8 @@ fn sampled(
     thresholds: &mut [u32],
 ) -> Referred
     requires { ⌜ Samples location (tracker kept (now locations) (now counts) (now thresholds)) ⌝ }
-    ensures { λ r. ⌜ outcome (replyResult (r .answer)) (tracker (r .kept) (now (locations .exit)) (now (counts .exit)) (now (thresholds .exit))) ≡ referOf location (tracker kept (now (locations .entry)) (now (counts .entry)) (now (thresholds .entry))) ⌝ }
+    ensures { λ r. ⌜ outcome (replyResult (r .answer)) (trackerAfter (r .kept) locations counts thresholds)
+        ≡ referOf location (trackerBefore kept locations counts thresholds) ⌝ }
 {
     match live::first_place(locations, kept.live as usize, location) {
         Found::At(place) => again_at(kept, location, place, locations, counts, thresholds),
@@ -155,7 +165,8 @@ pub fn refer(
     counts: &mut [u64],
     thresholds: &mut [u32],
 ) -> Referred
-    ensures { λ r. ⌜ outcome (replyResult (r .answer)) (tracker (r .kept) (now (locations .exit)) (now (counts .exit)) (now (thresholds .exit))) ≡ referOf location (tracker kept (now (locations .entry)) (now (counts .entry)) (now (thresholds .entry))) ⌝ }
+    ensures { λ r. ⌜ outcome (replyResult (r .answer)) (trackerAfter (r .kept) locations counts thresholds)
+        ≡ referOf location (trackerBefore kept locations counts thresholds) ⌝ }
 {
     if judge::torn(kept) {
         return refused(kept, Refusal::Torn);
@@ -163,7 +174,7 @@ pub fn refer(
     if judge::too_short(kept.settings, locations, counts, thresholds) {
         return refused(kept, Refusal::Tables);
     }
-    if kept.numbers.references == 0xffff_ffff {
+    if kept.numbers.references == MOST_REFERENCES {
         return refused(kept, Refusal::Full);
     }
     if kept.threshold <= hash::hash_of(kept.settings.hashing, location) {

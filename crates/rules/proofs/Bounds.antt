@@ -8,7 +8,7 @@ use lib.ListN.{length}
 use borrow.Author.Tests.{eqb-false, ltb-false, ne-eqb, le-ltb}
 use Rattle.rules.specs.declared.Settings.{Settings}
 use Rattle.rules.specs.declared.Record.{Record}
-use Rattle.rules.specs.Settings.{outOfRange, Histogram, Tables, needed, fullRate}
+use Rattle.rules.specs.Settings.{outOfRange, Histogram, Tables, needed, fullRate, mostReferences, mostBuckets, mostLimit, mostWidth, oneReference}
 use Rattle.rules.specs.Reference.{rescaled}
 use Rattle.rules.specs.Conditions.{bucketsTooShort, tooShort, tornRecord, tornBucket}
 use Rattle.rules.proofs.Tests.{neither}
@@ -17,13 +17,13 @@ use Rattle.rules.proofs.Buckets.{Long, rescaled-le}
 -- settings in their ranges
 pub record InRange (s : Settings) : Type 0 where
   pub limit-low : s .limit ≡ 0 → ⊥
-  pub limit-high : s .limit ≤ 8192
+  pub limit-high : s .limit ≤ mostLimit
   pub start-low : s .start ≡ 0 → ⊥
-  pub start-high : s .start ≤ 16777216
+  pub start-high : s .start ≤ fullRate
   pub width-low : s .width ≡ 0 → ⊥
-  pub width-high : s .width ≤ 4294967295
+  pub width-high : s .width ≤ mostWidth
   pub buckets-low : s .buckets ≡ 0 → ⊥
-  pub buckets-high : s .buckets ≤ 10000
+  pub buckets-high : s .buckets ≤ mostBuckets
   pub kind-high : s .hashing .kind ≤ 1
 
 pub in-range : (s : Settings) → outOfRange s ≡ false → InRange s
@@ -39,13 +39,13 @@ in-range s e =
     let p2 = neither (p3 .0) in
     record {
       limit-low = eqb-false (s .limit) 0 (p2 .0);
-      limit-high = ltb-false 8192 (s .limit) (p2 .1);
+      limit-high = ltb-false mostLimit (s .limit) (p2 .1);
       start-low = eqb-false (s .start) 0 (p3 .1);
-      start-high = ltb-false 16777216 (s .start) (p4 .1);
+      start-high = ltb-false fullRate (s .start) (p4 .1);
       width-low = eqb-false (s .width) 0 (p5 .1);
-      width-high = ltb-false 4294967295 (s .width) (p6 .1);
+      width-high = ltb-false mostWidth (s .width) (p6 .1);
       buckets-low = eqb-false (s .buckets) 0 (p7 .1);
-      buckets-high = ltb-false 10000 (s .buckets) (p8 .1);
+      buckets-high = ltb-false mostBuckets (s .buckets) (p8 .1);
       kind-high = ltb-false 1 (s .hashing .kind) (p9 .1);
     }
 
@@ -56,7 +56,7 @@ pub record Whole (kept : Record) : Type 0 where
   pub live-high : kept .live ≤ kept .settings .limit
   pub threshold-high : kept .threshold ≤ kept .settings .start
   pub sampled-high : kept .numbers .sampled ≤ kept .numbers .references
-  pub references-high : kept .numbers .references ≤ 4294967295
+  pub references-high : kept .numbers .references ≤ mostReferences
 
 pub whole : (kept : Record) → tornRecord kept ≡ false → Whole kept
 unfolding tornRecord
@@ -71,12 +71,12 @@ whole kept e =
       live-high = ltb-false (kept .settings .limit) (kept .live) (p2 .1);
       threshold-high = ltb-false (kept .settings .start) (kept .threshold) (p3 .1);
       sampled-high = ltb-false (kept .numbers .references) (kept .numbers .sampled) (p4 .1);
-      references-high = ltb-false 4294967295 (kept .numbers .references) (p5 .1);
+      references-high = ltb-false mostReferences (kept .numbers .references) (p5 .1);
     }
 
 -- and the other way round
 pub untorn : (kept : Record) → outOfRange (kept .settings) ≡ false → kept .live ≤ kept .settings .limit → kept .threshold ≤ kept .settings .start
-    → kept .numbers .sampled ≤ kept .numbers .references → kept .numbers .references ≤ 4294967295 → tornRecord kept ≡ false
+    → kept .numbers .sampled ≤ kept .numbers .references → kept .numbers .references ≤ mostReferences → tornRecord kept ≡ false
 unfolding tornRecord
 untorn kept e l t n r = rw (e, le-ltb _ _ l, le-ltb _ _ t, le-ltb _ _ n, le-ltb _ _ r)
 
@@ -109,7 +109,7 @@ pub record Sound (references t count threshold : ℕ) : Type 0 where
   pub some : threshold ≡ 0 → ⊥
   pub above : t ≤ threshold
   pub under : threshold ≤ fullRate
-  pub counted : count ≤ 256 * references
+  pub counted : count ≤ oneReference * references
 
 pub sound : (references t count threshold : ℕ) → tornBucket references t count threshold ≡ false → Sound references t count threshold
 unfolding tornBucket
@@ -121,7 +121,7 @@ sound references t count threshold e =
       some = eqb-false threshold 0 (p1 .0);
       above = ltb-false threshold t (p1 .1);
       under = ltb-false fullRate threshold (p2 .1);
-      counted = ltb-false (256 * references) count (p3 .1);
+      counted = ltb-false (oneReference * references) count (p3 .1);
     }
 
 pub not-torn : (references t count threshold : ℕ) → Sound references t count threshold → tornBucket references t count threshold ≡ false

@@ -8,7 +8,7 @@ use lib.ListN.{length, length-set}
 use lib.Seq.{getD-set-same, getD-set-other}
 use lib.Dec.{eqb}
 use borrow.Author.Tests.{eqb-true, eqb-false}
-use Rattle.rules.specs.Settings.{Histogram}
+use Rattle.rules.specs.Settings.{Histogram, oneReference}
 use Rattle.rules.specs.Reference.{rescaled, countAt, thresholdAt, recordIn}
 use Rattle.rules.specs.Curve.{rawTo}
 use Rattle.rules.proofs.Tests.{cases}
@@ -24,7 +24,7 @@ pub record Long (n : ℕ) (g : Histogram) : Type 0 where
 module _ (t j : ℕ) (g : Histogram) where
   pub long-record : (n : ℕ) → Long n g → Long n (recordIn t j g)
   long-record n l = record {
-    counts-long = omega (arith, l .counts-long, length-set (g .counts) j (rescaled t (countAt j g) (thresholdAt j g) + 256));
+    counts-long = omega (arith, l .counts-long, length-set (g .counts) j (rescaled t (countAt j g) (thresholdAt j g) + oneReference));
     thresholds-long = omega (arith, l .thresholds-long, length-set (g .thresholds) j t);
   }
 
@@ -35,7 +35,7 @@ module _ (t j : ℕ) (g : Histogram) where
   pub threshold-other : (i : ℕ) → i ≢ j → thresholdAt i (recordIn t j g) ≡ thresholdAt i g
   threshold-other i d = getD-set-other (g .thresholds) j i t 0 d
 
-  pub count-recorded : j < length (g .counts) → countAt j (recordIn t j g) ≡ rescaled t (countAt j g) (thresholdAt j g) + 256
+  pub count-recorded : j < length (g .counts) → countAt j (recordIn t j g) ≡ rescaled t (countAt j g) (thresholdAt j g) + oneReference
   count-recorded h = getD-set-same (g .counts) j _ 0 h
 
   pub threshold-recorded : j < length (g .thresholds) → thresholdAt j (recordIn t j g) ≡ t
@@ -47,7 +47,7 @@ module _ (t j : ℕ) (g : Histogram) where
   raw-before zero h = refl
   raw-before (suc n) h = ap₂ (λ a b. a + b) (raw-before n (omega arith)) (count-other n (omega arith))
 
-  pub raw-recorded : j < length (g .counts) → (n : ℕ) → j < n → rawTo n (recordIn t j g) + countAt j g ≡ rawTo n g + (rescaled t (countAt j g) (thresholdAt j g) + 256)
+  pub raw-recorded : j < length (g .counts) → (n : ℕ) → j < n → rawTo n (recordIn t j g) + countAt j g ≡ rawTo n g + (rescaled t (countAt j g) (thresholdAt j g) + oneReference)
   unfolding rawTo
   raw-recorded h zero b = omega arith
   raw-recorded h (suc n) b = cases (eqb n j)

@@ -9,7 +9,7 @@ use lib.Dec.{eqb, ltb}
 use borrow.Author.Tests.{ltb-true, eqb-true, eqb-false}
 use Rattle.rules.specs.declared.Settings.{Settings}
 use Rattle.rules.specs.Lists.{has, upto}
-use Rattle.rules.specs.Settings.{Histogram, Tables, needed}
+use Rattle.rules.specs.Settings.{Histogram, Tables, needed, oneReference}
 use Rattle.rules.specs.Reference.{Sample, Profile, under, scaledDistance, rescaled, countAt, thresholdAt, recordIn, bucketFor, withinLimit, step}
 use Rattle.rules.specs.Curve.{rawTo}
 use Rattle.rules.specs.Layout.{freshTables}
@@ -24,8 +24,8 @@ pub record Clean (n start references t : ℕ) (g : Histogram) : Type 0 where
   pub at-least-one : (j : ℕ) → j < n → 0 < thresholdAt j g
   pub not-below : (j : ℕ) → j < n → t ≤ thresholdAt j g
   pub not-above : (j : ℕ) → j < n → thresholdAt j g ≤ start
-  pub count-high : (j : ℕ) → j < n → countAt j g ≤ 256 * references
-  pub raw-high : rawTo n g ≤ 256 * references
+  pub count-high : (j : ℕ) → j < n → countAt j g ≤ oneReference * references
+  pub raw-high : rawTo n g ≤ oneReference * references
 
 pub clean-fresh : (s : Settings) (t : Tables) → Long (needed (s .buckets)) (t .histogram) → 0 < s .start → Clean (needed (s .buckets)) (s .start) 0 (s .start) (freshTables s t .histogram)
 clean-fresh s t l p = record {

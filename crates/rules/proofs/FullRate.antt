@@ -9,10 +9,12 @@ use native.Mathlib.Omega.{arith}
 use lib.ListN.{length}
 use lib.Dec.{eqb, ltb, leb, lit<}
 use borrow.Author.Tests.{lt-ltb, le-ltb, ltb-true, ltb-false, eqb-true, eqb-false, leb-true, leb-false}
+use Rattle.rules.specs.declared.Settings.{Settings}
 use Rattle.rules.specs.Lists.{keep, has, upto}
-use Rattle.rules.specs.Settings.{Histogram, needed, fullRate}
+use Rattle.rules.specs.Settings.{Histogram, needed, fullRate, oneReference}
 use Rattle.rules.specs.Reference.{Sample, Profile, widths, under, scaledDistance, rescaled, countAt, thresholdAt, recordIn, bucketFor, step}
 use Rattle.rules.specs.Curve.{sumTo, rawTo}
+use Rattle.rules.specs.Layout.{profileOf}
 use Rattle.rules.specs.History.{recency, different, Largest}
 use Rattle.rules.specs.Cache.{cached, oneIf, hits}
 use Rattle.rules.proofs.Tests.{cases}
@@ -20,6 +22,7 @@ use Rattle.rules.proofs.Lists.{keep-all}
 use Rattle.rules.proofs.History.{has-recency, upto-recency}
 use Rattle.rules.proofs.Cache.{hit-is}
 use Rattle.rules.proofs.Buckets.{Long, long-record, raw-before, raw-recorded, threshold-other, threshold-recorded}
+use Rattle.rules.proofs.Bounds.{InRange}
 use Rattle.rules.proofs.Steps.{Tracked, step-again, step-first, within-limit-histogram}
 
 -- a profile whose buckets are cut at the sizes of its points
@@ -46,12 +49,16 @@ widths-cut width buckets pos = record {
         (λ e. rw e (sym (lt-ltb d (k * width) (div-lt-iff-lt-mul pos .0 (ltb-true (d / width) k e)))))
         (λ e. rw e (sym (le-ltb d (k * width) (not-below d k (ltb-false (d / width) k e)))))
 
+-- a record's own profile is one
+pub profile-cut : (s : Settings) → InRange s → Cut (profileOf s)
+profile-cut s r = widths-cut (s .width) (s .buckets) (omega (arith, r .width-low))
+
 -- what a histogram holds at full rate: of `references` references, `hit n` found their block in a cache of n blocks
 pub record Exact (f : Profile) (hit : ℕ → ℕ) (references : ℕ) (g : Histogram) : Type 0 where
   pub long : Long (needed (f .buckets)) g
   pub flat : (j : ℕ) → j < needed (f .buckets) → thresholdAt j g ≡ fullRate
-  pub below : (k : ℕ) → k ≤ f .buckets → rawTo k g ≡ 256 * hit (f .size k)
-  pub total : rawTo (needed (f .buckets)) g ≡ 256 * references
+  pub below : (k : ℕ) → k ≤ f .buckets → rawTo k g ≡ oneReference * hit (f .size k)
+  pub total : rawTo (needed (f .buckets)) g ≡ oneReference * references
 
 -- a report under fullRate then sums the raw counts
 pub exact-report : (f : Profile) (hit : ℕ → ℕ) (m : ℕ) (g : Histogram) → Exact f hit m g → (n : ℕ) → n ≤ needed (f .buckets) → sumTo fullRate n g ≡ rawTo n g
@@ -62,7 +69,7 @@ exact-report f hit m g e (suc n) l =
     (ap (rescaled fullRate (countAt n g)) (e .flat n l) ∙ mul-div-cancel (countAt n g) {n = fullRate} (lit< tt))
 
 module _ (f : Profile) (hit : ℕ → ℕ) (m : ℕ) (g : Histogram) (e : Exact f hit m g) (j : ℕ) (b : j < needed (f .buckets)) where
-  raw-more : (n : ℕ) → rawTo n (recordIn fullRate j g) ≡ 256 * oneIf (ltb j n) + rawTo n g
+  raw-more : (n : ℕ) → rawTo n (recordIn fullRate j g) ≡ oneReference * oneIf (ltb j n) + rawTo n g
   raw-more n =
       let c : j < length (g .counts) = omega (arith, e .long .counts-long) in
       let q : rescaled fullRate (countAt j g) (thresholdAt j g) ≡ countAt j g = ap (rescaled fullRate (countAt j g)) (e .flat j b) ∙ mul-div-cancel (countAt j g) {n = fullRate} (lit< tt) in
@@ -78,7 +85,7 @@ module _ (f : Profile) (hit : ℕ → ℕ) (m : ℕ) (g : Histogram) (e : Exact 
         (λ d. let s : i ≡ j = eqb-true i j d in rw s (threshold-recorded fullRate j g (omega (arith, e .long .thresholds-long))))
         (λ d. threshold-other fullRate j g i (eqb-false i j d) ∙ e .flat i l);
     below = λ k l. rw (q k l) (omega (arith, raw-more k, e .below k l));
-    total = omega (arith, raw-more (needed (f .buckets)), ap (λ z. 256 * oneIf z) (lt-ltb j (needed (f .buckets)) b), e .total);
+    total = omega (arith, raw-more (needed (f .buckets)), ap (λ z. oneReference * oneIf z) (lt-ltb j (needed (f .buckets)) b), e .total);
   }
 
 module _ (hash : ℕ → ℕ) (all : (y : ℕ) → hash y < fullRate) where

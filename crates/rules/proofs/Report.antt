@@ -6,7 +6,7 @@ use mathlib.Core.Bool.{false}
 use native.Mathlib.Nat.{eq-or-lt-of-le}
 use native.Mathlib.Omega.{arith}
 use borrow.Author.Tests.{ltb-false}
-use Rattle.rules.specs.Settings.{Histogram, needed}
+use Rattle.rules.specs.Settings.{Histogram, needed, oneReference}
 use Rattle.rules.specs.Reference.{countAt, thresholdAt}
 use Rattle.rules.specs.Curve.{sumTo, rawTo, totalOf}
 use Rattle.rules.specs.Conditions.{anyTorn, tornTo, tornReport}
@@ -30,8 +30,8 @@ module _ (references t : ℕ) (g : Histogram) where
       let p = neither {a = anyTorn references t n g} e in
       omega (arith, sum-raw n (p .0), sound-rescaled (sound references t (countAt n g) (thresholdAt n g) (p .1)))
 
-  pub total-high : (buckets : ℕ) → tornReport references t buckets g ≡ false → totalOf t buckets g ≤ 256 * references
+  pub total-high : (buckets : ℕ) → tornReport references t buckets g ≡ false → totalOf t buckets g ≤ oneReference * references
   unfolding tornTo
   total-high buckets e =
       let p = neither {a = anyTorn references t (needed buckets) g} e in
-      omega (arith, sum-raw (needed buckets) (p .0), ltb-false (256 * references) (rawTo (needed buckets) g) (p .1))
+      omega (arith, sum-raw (needed buckets) (p .0), ltb-false (oneReference * references) (rawTo (needed buckets) g) (p .1))

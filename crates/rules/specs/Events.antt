@@ -54,10 +54,14 @@ Fits (Setup b) = (b .limit < 2 ^ 32) × (b .start < 2 ^ 32) × (b .width < 2 ^ 3
 abbrev pub Bytes : List ℕ → Type 0
 Bytes s = (i : ℕ) → getD s i 0 < 256
 
+-- the bytes of a block
+abbrev pub blockBytes : ℕ
+blockBytes = 4096
+
 -- the references that an event stands for: kind 1 one, kind 2 one to offset / 4,096, or none if its length is 0
 abbrev pub referencesOf : Event → List ℕ
 referencesOf (Location x) = x ∷ []
-referencesOf (Span offset bytes) = cond (eqb bytes 0) [] (offset / 4096 ∷ [])
+referencesOf (Span offset bytes) = cond (eqb bytes 0) [] (offset / blockBytes ∷ [])
 referencesOf Restart = []
 referencesOf (Setup b) = []
 

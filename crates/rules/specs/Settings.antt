@@ -15,6 +15,16 @@ fullRate = 2 ^ 24
 abbrev pub mostReferences : ℕ
 mostReferences = 2 ^ 32 - 1
 
+-- the largest S, W and B allowed
+abbrev pub mostLimit : ℕ
+mostLimit = 8192
+
+abbrev pub mostWidth : ℕ
+mostWidth = 2 ^ 32 - 1
+
+abbrev pub mostBuckets : ℕ
+mostBuckets = 10000
+
 -- one reference, in the units of counts
 abbrev pub oneReference : ℕ
 oneReference = 256
@@ -40,10 +50,10 @@ unknownHash h = ltb 1 (h .kind)
 -- after defaults, a setting is outside its range
 unfoldable pub outOfRange : Settings → Bool
 outOfRange s =
-    eqb (s .limit) 0 || ltb 8192 (s .limit)
+    eqb (s .limit) 0 || ltb mostLimit (s .limit)
     || eqb (s .start) 0 || ltb fullRate (s .start)
-    || eqb (s .width) 0 || ltb (2 ^ 32 - 1) (s .width)
-    || eqb (s .buckets) 0 || ltb 10000 (s .buckets)
+    || eqb (s .width) 0 || ltb mostWidth (s .width)
+    || eqb (s .buckets) 0 || ltb mostBuckets (s .buckets)
     || unknownHash (s .hashing)
 
 -- x xor (x shifted right 33)

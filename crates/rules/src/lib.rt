@@ -1,4 +1,44 @@
-// The types that every crate shares: settings, the record, the answers, the trace events. Nothing here runs.
+// The types that every crate shares: settings, the record, the answers, the trace events; and the numbers of document 01. Nothing here
+// runs.
+
+// P, full rate: every hash is below it, so a threshold of P samples every location.
+pub const FULL_RATE: u64 = 0x100_0000;
+
+// One reference, in the units of counts.
+pub const ONE_REFERENCE: u64 = 256;
+
+// At most so many references are made in a run.
+pub const MOST_REFERENCES: u64 = 0xffff_ffff;
+
+// The largest settings that are allowed. T0 is at most FULL_RATE, the hash kind at most MOST_KIND.
+pub const MOST_LIMIT: u64 = 8192;
+
+pub const MOST_WIDTH: u64 = 0xffff_ffff;
+
+pub const MOST_BUCKETS: u64 = 10000;
+
+pub const MOST_KIND: u64 = 1;
+
+// What a setting of zero means.
+pub const DEFAULT_LIMIT: u64 = 1024;
+
+pub const DEFAULT_START: u64 = 1677721;
+
+pub const DEFAULT_WIDTH: u64 = 1;
+
+pub const DEFAULT_BUCKETS: u64 = 256;
+
+// The bytes of a block.
+pub const BLOCK_BYTES: u64 = 4096;
+
+// The bytes of an event, by its kind.
+pub const LOCATION_BYTES: usize = 9;
+
+pub const SPAN_BYTES: usize = 13;
+
+pub const RESTART_BYTES: usize = 1;
+
+pub const SETUP_BYTES: usize = 18;
 
 // Which hash a location gets.
 pub struct Hashing {

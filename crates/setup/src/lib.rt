@@ -1,4 +1,8 @@
 // Fresh starts: setup and restart. Each takes any settings or record, and tables of any length with any contents.
+use rules::DEFAULT_BUCKETS;
+use rules::DEFAULT_LIMIT;
+use rules::DEFAULT_START;
+use rules::DEFAULT_WIDTH;
 use rules::Numbers;
 use rules::Record;
 use rules::Refusal;
@@ -12,9 +16,10 @@ ghost use Rattle.rules.specs.Lists.{over};
 ghost use Rattle.rules.specs.Settings.{withDefaults, orDefault, outOfRange};
 ghost use Rattle.rules.specs.Answers.{startedResult};
 ghost use Rattle.rules.specs.Order.{outcome};
-ghost use Rattle.rules.specs.Layout.{bucketsOf, tablesOf, freshBuckets, freshRecord};
+ghost use Rattle.rules.specs.Layout.{bucketsOf, freshBuckets, freshRecord};
 ghost use Rattle.rules.specs.Conditions.{bucketsTooShort};
 ghost use Rattle.rules.specs.Calls.{setupOf, restartOf};
+ghost use Rattle.rules.specs.Lent.{tablesBefore, bucketsBefore, tablesAfter, bucketsAfter};
 
 fn or_default(setting: u64, default: u64) -> u64
     ensures { λ r. ⌜ r ≡ orDefault default setting ⌝ }
@@ -27,10 +32,10 @@ fn with_defaults(given: Settings) -> Settings
 {
     let hashing = given.hashing;
     Settings {
-        limit: or_default(given.limit, 1024),
-        start: or_default(given.start, 1677721),
-        width: or_default(given.width, 1),
-        buckets: or_default(given.buckets, 256),
+        limit: or_default(given.limit, DEFAULT_LIMIT),
+        start: or_default(given.start, DEFAULT_START),
+        width: or_default(given.width, DEFAULT_WIDTH),
+        buckets: or_default(given.buckets, DEFAULT_BUCKETS),
         hashing,
     }
 }
@@ -53,7 +58,7 @@ fn clear(counts: &mut [u64], thresholds: &mut [u32], n: usize, start: u32)
 fn begin(s: Settings, counts: &mut [u64], thresholds: &mut [u32]) -> Record
     requires { ⌜ (outOfRange s ≡ false) × (bucketsTooShort s (bucketsOf (now counts) (now thresholds)) ≡ false) ⌝ }
     ensures { λ r. ⌜ r ≡ freshRecord s ⌝ }
-    ensures { λ _. ⌜ bucketsOf (now (counts .exit)) (now (thresholds .exit)) ≡ freshBuckets s (bucketsOf (now (counts .entry)) (now (thresholds .entry))) ⌝ }
+    ensures { λ _. ⌜ bucketsAfter counts thresholds ≡ freshBuckets s (bucketsBefore counts thresholds) ⌝ }
 {
     let start = s.start;
     clear(counts, thresholds, (s.buckets + 2) as usize, start as u32);
@@ -75,7 +80,8 @@ pub fn setup(
     counts: &mut [u64],
     thresholds: &mut [u32],
 ) -> Started
-    ensures { λ r. ⌜ outcome (startedResult r) (tablesOf (now (locations .entry)) (now (counts .exit)) (now (thresholds .exit))) ≡ setupOf given (tablesOf (now (locations .entry)) (now (counts .entry)) (now (thresholds .entry))) ⌝ }
+    ensures { λ r. ⌜ outcome (startedResult r) (tablesAfter locations counts thresholds)
+        ≡ setupOf given (tablesBefore locations counts thresholds) ⌝ }
 {
     let s = with_defaults(given);
     if judge::out_of_range(s) {
@@ -94,7 +100,8 @@ pub fn restart(
     counts: &mut [u64],
     thresholds: &mut [u32],
 ) -> Started
-    ensures { λ r. ⌜ outcome (startedResult r) (tablesOf (now (locations .entry)) (now (counts .exit)) (now (thresholds .exit))) ≡ restartOf kept (tablesOf (now (locations .entry)) (now (counts .entry)) (now (thresholds .entry))) ⌝ }
+    ensures { λ r. ⌜ outcome (startedResult r) (tablesAfter locations counts thresholds)
+        ≡ restartOf kept (tablesBefore locations counts thresholds) ⌝ }
 {
     if judge::torn(kept) {
         return Started::Refused(Refusal::Torn);

@@ -8,8 +8,8 @@ ghost use mathlib.Core.List.{_++_};
 ghost use Prim.Native.Nat.{_+_, _≤_};
 ghost use lib.ListN.{length};
 ghost use Rattle.rules.specs.Answers.{pointResult};
-ghost use Rattle.rules.specs.Layout.{bucketsOf};
 ghost use Rattle.rules.specs.Calls.{ownPoint};
+ghost use Rattle.rules.specs.Lent.{bucketsBefore};
 ghost use Rattle.text.specs.Text.{decimal, newline, firstLine, pointLine, lineOf, linesTo, pointsOr, Adds, placed, curveIn, refusedIn};
 
 // ---- text in a buffer, behind the first bytes of it
@@ -48,7 +48,8 @@ fn put_both(out: &mut [u8], at: usize, word: &[u8], n: u64) -> usize
 // The last two numbers of a line, each behind its word, and the line's end.
 fn put_last_two(out: &mut [u8], at: usize, word: &[u8], n: u64, other: &[u8], m: u64) -> usize
     requires { ⌜ at + length (now word) + length (now other) + 41 ≤ length (now out) ⌝ }
-    ensures { λ r. ⌜ Adds (now (out .entry)) at ((now (word .entry) ++ decimal n) ++ ((now (other .entry) ++ decimal m) ++ newline)) (now (out .exit)) r ⌝ }
+    ensures { λ r. ⌜ Adds (now (out .entry)) at
+        ((now (word .entry) ++ decimal n) ++ ((now (other .entry) ++ decimal m) ++ newline)) (now (out .exit)) r ⌝ }
     ensures { λ r. ⌜ r ≤ at + length (now (word .entry)) + length (now (other .entry)) + 41 ⌝ }
 {
     let one = put_both(out, at, word, n);
@@ -88,7 +89,7 @@ fn put_point_line(out: &mut [u8], at: usize, p: Point) -> usize
 
 // A point, for the shape that the record itself has.
 fn point_at(kept: Record, number: u64, counts: &[u64], thresholds: &[u32]) -> Pointed
-    ensures { λ r. ⌜ pointResult r ≡ ownPoint kept number (bucketsOf (now (counts .entry)) (now (thresholds .entry))) ⌝ }
+    ensures { λ r. ⌜ pointResult r ≡ ownPoint kept number (bucketsBefore counts thresholds) ⌝ }
 {
     let shape = Shape {
         buckets: kept.settings.buckets,
@@ -107,7 +108,7 @@ fn put_point(
     thresholds: &[u32],
 ) -> usize
     requires { ⌜ at + 63 ≤ length (now out) ⌝ }
-    ensures { λ r. ⌜ Adds (now (out .entry)) at (lineOf (ownPoint kept number (bucketsOf (now (counts .entry)) (now (thresholds .entry))))) (now (out .exit)) r ⌝ }
+    ensures { λ r. ⌜ Adds (now (out .entry)) at (lineOf (ownPoint kept number (bucketsBefore counts thresholds))) (now (out .exit)) r ⌝ }
     ensures { λ r. ⌜ r ≤ at + 63 ⌝ }
 {
     match point_at(kept, number, counts, thresholds) {
@@ -119,7 +120,7 @@ fn put_point(
 // A line per point, 0 to B.
 fn put_points(out: &mut [u8], at: usize, kept: Record, counts: &[u64], thresholds: &[u32]) -> usize
     requires { ⌜ (at ≤ 118) × (kept .settings .buckets ≤ 1024) × (65536 ≤ length (now out)) ⌝ }
-    ensures { λ r. ⌜ Adds (now (out .entry)) at (linesTo (kept .settings .buckets + 1) kept (bucketsOf (now (counts .entry)) (now (thresholds .entry)))) (now (out .exit)) r ⌝ }
+    ensures { λ r. ⌜ Adds (now (out .entry)) at (linesTo (kept .settings .buckets + 1) kept (bucketsBefore counts thresholds)) (now (out .exit)) r ⌝ }
     ensures { λ r. ⌜ r ≤ 65000 ⌝ }
 {
     let last = kept.settings.buckets;
@@ -135,7 +136,8 @@ fn put_points(out: &mut [u8], at: usize, kept: Record, counts: &[u64], threshold
 // The points and `end`, or `empty`.
 fn put_body(out: &mut [u8], at: usize, kept: Record, counts: &[u64], thresholds: &[u32]) -> usize
     requires { ⌜ (at ≤ 118) × (length (now counts) ≤ 1026) × (65536 ≤ length (now out)) ⌝ }
-    ensures { λ r. ⌜ Adds (now (out .entry)) at (pointsOr (ownPoint kept 0 (bucketsOf (now (counts .entry)) (now (thresholds .entry)))) kept (bucketsOf (now (counts .entry)) (now (thresholds .entry)))) (now (out .exit)) r ⌝ }
+    ensures { λ r. ⌜ Adds (now (out .entry)) at
+        (pointsOr (ownPoint kept 0 (bucketsBefore counts thresholds)) kept (bucketsBefore counts thresholds)) (now (out .exit)) r ⌝ }
 {
     match point_at(kept, 0, counts, thresholds) {
         Pointed::At(_) => {
@@ -150,7 +152,7 @@ fn put_body(out: &mut [u8], at: usize, kept: Record, counts: &[u64], thresholds:
 
 // The curve. A buffer that is shorter than 65,536 bytes, and more counts than the program has, get nothing and 0.
 pub fn put_curve(out: &mut [u8], kept: Record, counts: &[u64], thresholds: &[u32]) -> usize
-    ensures { λ r. ⌜ placed r (now (out .exit)) ≡ curveIn kept (bucketsOf (now (counts .entry)) (now (thresholds .entry))) (now (out .entry)) ⌝ }
+    ensures { λ r. ⌜ placed r (now (out .exit)) ≡ curveIn kept (bucketsBefore counts thresholds) (now (out .entry)) ⌝ }
 {
     if (out.len() < 65536) | (1026 < counts.len()) {
         return 0;

@@ -7,7 +7,11 @@ ghost use Rattle.rules.specs.Answers.{writtenResult};
 ghost use Rattle.rules.specs.Order.{outcome};
 ghost use Rattle.rules.specs.Events.{bytesOf, eventBytes, eventLength, writeOf};
 use rules::Event;
+use rules::LOCATION_BYTES;
+use rules::RESTART_BYTES;
 use rules::Refusal;
+use rules::SETUP_BYTES;
+use rules::SPAN_BYTES;
 use rules::SetupBody;
 use rules::Written;
 
@@ -96,13 +100,13 @@ fn size(event: Event) -> usize
     ensures { λ r. ⌜ r ≡ eventLength event ⌝ }
 {
     match event {
-        Event::Location(_) => 9,
+        Event::Location(_) => LOCATION_BYTES,
         Event::Span {
             offset: _,
             length: _,
-        } => 13,
-        Event::Restart => 1,
-        Event::Setup(_) => 18,
+        } => SPAN_BYTES,
+        Event::Restart => RESTART_BYTES,
+        Event::Setup(_) => SETUP_BYTES,
     }
 }
 
