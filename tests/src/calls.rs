@@ -44,7 +44,7 @@ const POINT: &[&str] = &[
     "Empty",
 ];
 
-fn some_settings(random: &mut Random) -> Settings {
+pub fn some_settings(random: &mut Random) -> Settings {
     let large = random.one_in(50);
     let start = match random.below(4) {
         0 => random.between(1, 16),
@@ -96,7 +96,7 @@ fn some_location(random: &mut Random) -> u64 {
 }
 
 /// A record with tables that fit it, and random contents that no call would refuse.
-fn some_tracker(random: &mut Random) -> Tracker {
+pub fn some_tracker(random: &mut Random) -> Tracker {
     let record = some_record(random);
     let needed = record.settings.buckets + 2;
     let locations = (0..record.settings.limit + random.below(4))
@@ -160,7 +160,7 @@ fn edge(random: &mut Random, record: Record) -> u64 {
     }
 }
 
-fn damage_word(random: &mut Random, record: &mut Record) {
+pub fn damage_word(random: &mut Random, record: &mut Record) {
     let number = edge(random, *record);
     match random.below(9) {
         0 => record.settings.limit = number,
@@ -237,7 +237,11 @@ fn given_settings(random: &mut Random) -> Settings {
     if random.one_in(2) {
         damage_word(random, &mut record);
     }
-    let mut given = record.settings;
+    with_zeros(random, record.settings)
+}
+
+/// The settings, at times with zeros for defaults.
+pub fn with_zeros(random: &mut Random, mut given: Settings) -> Settings {
     let zero = |random: &mut Random, number: &mut u64| {
         if random.one_in(8) {
             *number = 0;
@@ -257,7 +261,7 @@ fn name<T>(answer: &Result<T, Refusal>) -> String {
     }
 }
 
-fn same_number(got: u64, expected: u64) -> Result<(), String> {
+pub fn same_number(got: u64, expected: u64) -> Result<(), String> {
     if got == expected {
         Ok(())
     } else {
@@ -386,6 +390,16 @@ fn some_number(random: &mut Random, record: Record) -> u64 {
     }
 }
 
+/// A location of the table, or another.
+pub fn some_reference(random: &mut Random, tracker: &Tracker) -> u64 {
+    let entries = tracker.locations.len() as u64;
+    if entries > 0 && random.one_in(2) {
+        tracker.locations[random.below(entries) as usize]
+    } else {
+        some_location(random)
+    }
+}
+
 /// One call on a tracker of its own.
 fn one_call(model: &Model, random: &mut Random, tally: &mut Tally) -> Result<(), String> {
     let mut tracker = damaged_tracker(random);
@@ -409,12 +423,7 @@ fn one_call(model: &Model, random: &mut Random, tally: &mut Tally) -> Result<(),
         5 => check_write(model, random, tally),
         6 => check_hash(model, random, tally),
         _ => {
-            let live = tracker.locations.len() as u64;
-            let location = if live > 0 && random.one_in(2) {
-                tracker.locations[random.below(live) as usize]
-            } else {
-                some_location(random)
-            };
+            let location = some_reference(random, &tracker);
             check_refer(model, &mut tracker, &mut driver, location, tally)
         }
     }

@@ -45,7 +45,7 @@ fn library(sizes: &Sizes, seed: u64) -> Result<(), String> {
     let mut tally = Tally::default();
     calls::damaged(&model, seed, sizes.damaged_calls, &mut tally)?;
     println!("damaged records and tables: {} calls agree", tally.calls);
-    tally.require(calls::WANTED)?;
+    tally.require(calls::WANTED, 1)?;
     let mut tally = Tally::default();
     let lowerings = runs::clean(&model, seed, false, &mut tally)?;
     println!(
@@ -63,7 +63,7 @@ fn program(sizes: &Sizes, seed: u64) -> Result<(), String> {
     let mut tally = Tally::default();
     traces::random_inputs(&model, seed, sizes.random_inputs, &mut tally)?;
     println!("program: {} random inputs agree", tally.calls);
-    tally.require(traces::WANTED)?;
+    tally.require(traces::WANTED, 1)?;
     let length = sizes.long_input;
     traces::pipes(&model, seed, length)?;
     println!("program: {length} bytes, small pieces, cut events and empty input agree");

@@ -20,16 +20,16 @@ impl Tally {
         *self.counts.get(&key).unwrap_or(&0)
     }
 
-    /// A line for each function, and an error if an answer that must be met was not.
-    pub fn require(&self, wanted: &[(&str, &[&str])]) -> Result<(), String> {
+    /// A line for each function, and an error if an answer that must be met was met less often than this.
+    pub fn require(&self, wanted: &[(&str, &[&str])], least: u64) -> Result<(), String> {
         let mut missing = Vec::new();
         for (function, answers) in wanted {
             let mut line = format!("  {function}:");
             for answer in *answers {
                 let met = self.of(function, answer);
                 line.push_str(&format!(" {answer} {met}"));
-                if met == 0 {
-                    missing.push(format!("{function} never answered {answer}"));
+                if met < least {
+                    missing.push(format!("{function}: {answer} was met {met} times"));
                 }
             }
             println!("{line}");
