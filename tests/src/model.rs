@@ -47,9 +47,30 @@ pub enum Wrong {
     RefusalAtNextEvent,
     BucketsBeforeStale,
     HashCut,
+    // a refusal judged before the one that stands just above it in document 01's order
+    TablesBeforeSettings,
+    RestartTablesBeforeRecord,
+    ReferTablesBeforeRecord,
+    FullBeforeTables,
+    BucketBeforeFull,
+    PointTablesBeforeRecord,
+    StaleBeforeTables,
+    PointBeforeStale,
+    BucketsBeforePoint,
+    EmptyBeforeBuckets,
+    // the same for the pair of doubles alone
+    PlotTablesBeforeRecord,
+    PlotStaleBeforeTables,
+    PlotPointBeforeStale,
+    PlotBucketsBeforePoint,
+    PlotEmptyBeforeBuckets,
+    // the same for reading, which setup follows
+    KindBeforeNoBytes,
+    ShortBeforeKind,
+    SettingsBeforeShort,
 }
 
-pub const ALL_WRONG: [Wrong; 33] = [
+pub const ALL_WRONG: [Wrong; 51] = [
     Wrong::PlaceFromOne,
     Wrong::OneEntryRemoved,
     Wrong::NotAboveThreshold,
@@ -83,7 +104,49 @@ pub const ALL_WRONG: [Wrong; 33] = [
     Wrong::RefusalAtNextEvent,
     Wrong::BucketsBeforeStale,
     Wrong::HashCut,
+    Wrong::TablesBeforeSettings,
+    Wrong::RestartTablesBeforeRecord,
+    Wrong::ReferTablesBeforeRecord,
+    Wrong::FullBeforeTables,
+    Wrong::BucketBeforeFull,
+    Wrong::PointTablesBeforeRecord,
+    Wrong::StaleBeforeTables,
+    Wrong::PointBeforeStale,
+    Wrong::BucketsBeforePoint,
+    Wrong::EmptyBeforeBuckets,
+    Wrong::PlotTablesBeforeRecord,
+    Wrong::PlotStaleBeforeTables,
+    Wrong::PlotPointBeforeStale,
+    Wrong::PlotBucketsBeforePoint,
+    Wrong::PlotEmptyBeforeBuckets,
+    Wrong::KindBeforeNoBytes,
+    Wrong::ShortBeforeKind,
+    Wrong::SettingsBeforeShort,
 ];
+
+/// For each two neighbours of a call's refusals, the wrong model that has them the other way round.
+pub const SETUP_SWAPS: [Wrong; 1] = [Wrong::TablesBeforeSettings];
+pub const RESTART_SWAPS: [Wrong; 1] = [Wrong::RestartTablesBeforeRecord];
+pub const REFER_SWAPS: [Wrong; 3] = [
+    Wrong::ReferTablesBeforeRecord,
+    Wrong::FullBeforeTables,
+    Wrong::BucketBeforeFull,
+];
+pub const POINT_SWAPS: [Wrong; 5] = [
+    Wrong::PointTablesBeforeRecord,
+    Wrong::StaleBeforeTables,
+    Wrong::PointBeforeStale,
+    Wrong::BucketsBeforePoint,
+    Wrong::EmptyBeforeBuckets,
+];
+pub const PLOT_SWAPS: [Wrong; 5] = [
+    Wrong::PlotTablesBeforeRecord,
+    Wrong::PlotStaleBeforeTables,
+    Wrong::PlotPointBeforeStale,
+    Wrong::PlotBucketsBeforePoint,
+    Wrong::PlotEmptyBeforeBuckets,
+];
+pub const READ_SWAPS: [Wrong; 2] = [Wrong::KindBeforeNoBytes, Wrong::ShortBeforeKind];
 
 /// Why a call is refused. Torn stands in three variants, so that the tests can count each cause.
 #[derive(Clone, Copy, Debug, PartialEq, Eq, PartialOrd, Ord)]
@@ -220,7 +283,7 @@ fn scaled(count: u64, threshold: u64, bucket_threshold: u64) -> u64 {
 
 impl Tracker {
     fn buckets_long_enough(&self, settings: Settings) -> bool {
-        let needed = settings.buckets + 2;
+        let needed = settings.buckets.saturating_add(2);
         self.counts.len() as u64 >= needed && self.thresholds.len() as u64 >= needed
     }
 
@@ -228,8 +291,8 @@ impl Tracker {
         self.locations.len() as u64 >= settings.limit && self.buckets_long_enough(settings)
     }
 
-    fn live_list(&self) -> Vec<u64> {
-        self.locations[..self.record.live as usize].to_vec()
+    fn live_list(&self) -> &[u64] {
+        &self.locations[..self.record.live as usize]
     }
 
     fn put_live_list(&mut self, list: &[u64]) {
@@ -241,6 +304,27 @@ impl Tracker {
 
     fn needed(&self) -> usize {
         self.record.settings.buckets as usize + 2
+    }
+
+    /// The counts as they are reported.
+    fn rescaled(&self) -> Vec<u64> {
+        let mut rescaled = Vec::new();
+        for bucket in 0..self.needed() {
+            let held = u64::from(self.thresholds[bucket]);
+            rescaled.push(scaled(self.counts[bucket], self.record.threshold, held));
+        }
+        rescaled
+    }
+}
+
+/// A test that may refuse a call.
+type Judge<'a> = &'a dyn Fn() -> Result<(), Refusal>;
+
+fn refuse_if(condition: bool, refusal: Refusal) -> Result<(), Refusal> {
+    if condition {
+        Err(refusal)
+    } else {
+        Ok(())
     }
 }
 
@@ -259,11 +343,19 @@ impl Model {
 
     /// A model that refuses everything ends its calls here.
     fn unless_all_refused(&self, refusal: Refusal) -> Result<(), Refusal> {
-        if self.is(Wrong::RefusesEverything) {
-            Err(refusal)
-        } else {
-            Ok(())
+        refuse_if(self.is(Wrong::RefusesEverything), refusal)
+    }
+
+    /// The first refusal in this order, or in that of a wrong model which swaps two neighbours.
+    fn judge<const N: usize>(
+        &self,
+        mut judges: [Judge; N],
+        swaps: &[Wrong],
+    ) -> Result<(), Refusal> {
+        if let Some(first) = swaps.iter().position(|swap| self.is(*swap)) {
+            judges.swap(first, first + 1);
         }
+        judges.iter().try_for_each(|judge| judge())
     }
 
     pub fn hash(&self, kind: u64, location: u64) -> u64 {
@@ -307,15 +399,17 @@ impl Model {
     pub fn setup(&self, given: Settings, tracker: &mut Tracker) -> Result<(), Refusal> {
         let settings = given.with_defaults();
         self.unless_all_refused(Refusal::Settings)?;
-        if !settings.in_range() {
-            if self.is(Wrong::SetupRefusedClears) {
-                tracker.record.live = 0;
-            }
-            return Err(Refusal::Settings);
+        let judged = self.judge(
+            [
+                &|| refuse_if(!settings.in_range(), Refusal::Settings),
+                &|| refuse_if(!tracker.long_enough(settings), Refusal::Tables),
+            ],
+            &SETUP_SWAPS,
+        );
+        if judged == Err(Refusal::Settings) && self.is(Wrong::SetupRefusedClears) {
+            tracker.record.live = 0;
         }
-        if !tracker.long_enough(settings) {
-            return Err(Refusal::Tables);
-        }
+        judged?;
         self.fresh(settings, tracker);
         Ok(())
     }
@@ -324,12 +418,13 @@ impl Model {
         self.unless_all_refused(Refusal::TornRecord)?;
         let record = tracker.record;
         let judged = !self.is(Wrong::RestartJudgesNothing) || !record.settings.in_range();
-        if judged && record.torn() {
-            return Err(Refusal::TornRecord);
-        }
-        if !tracker.long_enough(record.settings) {
-            return Err(Refusal::Tables);
-        }
+        self.judge(
+            [
+                &|| refuse_if(judged && record.torn(), Refusal::TornRecord),
+                &|| refuse_if(!tracker.long_enough(record.settings), Refusal::Tables),
+            ],
+            &RESTART_SWAPS,
+        )?;
         self.fresh(record.settings, tracker);
         Ok(())
     }
@@ -372,24 +467,13 @@ impl Model {
         self.unless_all_refused(Refusal::TornRecord)?;
         let record = tracker.record;
         self.judge_reference(tracker, location)?;
-        let hash = self.hash(record.settings.kind, location);
-        if !self.samples(record, hash) {
+        if !self.samples(record, location) {
             tracker.record.references += 1;
             return Ok(Reply::Skipped);
         }
-        let list = tracker.live_list();
+        let list = tracker.live_list().to_vec();
         let found = self.place_of(&list, location);
-        let bucket = match found {
-            Some(place) => {
-                let counted = place as u64 + u64::from(self.is(Wrong::PlaceFromOne));
-                self.bucket_of(record, counted)
-            }
-            None => record.settings.buckets as usize + 1,
-        };
-        let judged_by = record.references + u64::from(self.is(Wrong::BucketJudgedAfter));
-        if !self.bucket_fits(tracker, bucket, judged_by) {
-            return Err(Refusal::TornBucket);
-        }
+        let bucket = self.recorded_in(record, found);
         tracker.record.references += 1 + u64::from(self.is(Wrong::InventsReferences));
         tracker.record.sampled += 1 + u64::from(self.is(Wrong::InventsSampled));
         match found {
@@ -398,29 +482,57 @@ impl Model {
         }
     }
 
-    fn judge_reference(&self, tracker: &Tracker, location: u64) -> Result<(), Refusal> {
-        let record = tracker.record;
-        if record.torn() {
-            return Err(Refusal::TornRecord);
+    /// The bucket for a sampled location that was found at this place, or nowhere.
+    fn recorded_in(&self, record: Record, found: Option<usize>) -> usize {
+        match found {
+            Some(place) => {
+                let counted = place as u64 + u64::from(self.is(Wrong::PlaceFromOne));
+                self.bucket_of(record, counted)
+            }
+            None => record.settings.buckets as usize + 1,
         }
-        if !tracker.long_enough(record.settings) {
-            return Err(Refusal::Tables);
-        }
-        let skipped = self.hash(record.settings.kind, location) >= record.threshold;
-        let spared = self.is(Wrong::SkippedNeverFull) && skipped;
-        if record.references == MOST_REFERENCES && !spared {
-            return Err(Refusal::Full);
-        }
-        Ok(())
     }
 
-    fn samples(&self, record: Record, hash: u64) -> bool {
+    fn judge_reference(&self, tracker: &Tracker, location: u64) -> Result<(), Refusal> {
+        let record = tracker.record;
+        self.judge(
+            [
+                &|| refuse_if(record.torn(), Refusal::TornRecord),
+                &|| refuse_if(!tracker.long_enough(record.settings), Refusal::Tables),
+                &|| refuse_if(self.full(record, location), Refusal::Full),
+                &|| self.judge_bucket(tracker, location),
+            ],
+            &REFER_SWAPS,
+        )
+    }
+
+    fn full(&self, record: Record, location: u64) -> bool {
+        let skipped = self.hash(record.settings.kind, location) >= record.threshold;
+        let spared = self.is(Wrong::SkippedNeverFull) && skipped;
+        record.references == MOST_REFERENCES && !spared
+    }
+
+    /// The single bucket that a reference would record in.
+    fn judge_bucket(&self, tracker: &Tracker, location: u64) -> Result<(), Refusal> {
+        let record = tracker.record;
+        if !self.samples(record, location) {
+            return Ok(());
+        }
+        let found = self.place_of(tracker.live_list(), location);
+        let bucket = self.recorded_in(record, found);
+        let judged_by = record.references + u64::from(self.is(Wrong::BucketJudgedAfter));
+        let fits = self.bucket_fits(tracker, bucket, judged_by);
+        refuse_if(!fits, Refusal::TornBucket)
+    }
+
+    fn samples(&self, record: Record, location: u64) -> bool {
         if self.is(Wrong::SkipsEverything) {
             return false;
         }
         if self.is(Wrong::FeignsAfterFirst) && record.references > 0 {
             return false;
         }
+        let hash = self.hash(record.settings.kind, location);
         let threshold = record.threshold;
         hash < threshold
             || (self.is(Wrong::NotAboveThreshold) && hash == threshold && threshold > 0)
@@ -509,27 +621,26 @@ impl Model {
         believed: Shape,
         number: u64,
     ) -> Result<Point, Refusal> {
+        self.point_judged(tracker, believed, number, &POINT_SWAPS)
+    }
+
+    fn point_judged(
+        &self,
+        tracker: &mut Tracker,
+        believed: Shape,
+        number: u64,
+        swaps: &[Wrong],
+    ) -> Result<Point, Refusal> {
         self.unless_all_refused(Refusal::TornRecord)?;
         let record = tracker.record;
-        let settings = record.settings;
-        self.judge_point(tracker, believed, number)?;
-        let mut rescaled = Vec::new();
-        for bucket in 0..tracker.needed() {
-            let held = u64::from(tracker.thresholds[bucket]);
-            rescaled.push(scaled(tracker.counts[bucket], record.threshold, held));
-        }
+        self.judge_point(tracker, believed, number, swaps)?;
+        let rescaled = tracker.rescaled();
+        let total = u64::try_from(self.total(tracker)).expect("a total is below 2^53");
         if self.is(Wrong::PointStores) {
             for (bucket, count) in rescaled.iter().enumerate() {
                 tracker.counts[bucket] = *count;
                 tracker.thresholds[bucket] = record.threshold as u32;
             }
-        }
-        let mut total: u64 = rescaled.iter().sum();
-        if self.is(Wrong::TotalWithoutFar) {
-            total -= rescaled[settings.buckets as usize];
-        }
-        if total == 0 {
-            return Err(Refusal::Empty);
         }
         let asked = if self.is(Wrong::SamePointAlways) {
             0
@@ -538,37 +649,58 @@ impl Model {
         };
         let hits: u64 = rescaled[..asked as usize].iter().sum();
         Ok(Point {
-            size: number * settings.width,
+            size: number * record.settings.width,
             hits,
             misses: total.saturating_sub(hits),
             total,
         })
     }
 
-    fn judge_point(&self, tracker: &Tracker, believed: Shape, number: u64) -> Result<(), Refusal> {
+    fn total(&self, tracker: &Tracker) -> u128 {
+        let mut rescaled = tracker.rescaled();
+        if self.is(Wrong::TotalWithoutFar) {
+            rescaled[tracker.record.settings.buckets as usize] = 0;
+        }
+        rescaled.iter().map(|count| u128::from(*count)).sum()
+    }
+
+    fn judge_point(
+        &self,
+        tracker: &Tracker,
+        believed: Shape,
+        number: u64,
+        swaps: &[Wrong],
+    ) -> Result<(), Refusal> {
         let record = tracker.record;
         let settings = record.settings;
-        if record.torn() {
-            return Err(Refusal::TornRecord);
-        }
-        if !tracker.buckets_long_enough(settings) {
-            return Err(Refusal::Tables);
-        }
+        self.judge(
+            [
+                &|| refuse_if(record.torn(), Refusal::TornRecord),
+                &|| refuse_if(!tracker.buckets_long_enough(settings), Refusal::Tables),
+                &|| self.judge_belief(tracker, believed),
+                &|| refuse_if(self.beyond(settings, number), Refusal::Point),
+                &|| self.judge_buckets(tracker),
+                &|| refuse_if(self.total(tracker) == 0, Refusal::Empty),
+            ],
+            swaps,
+        )
+    }
+
+    fn judge_belief(&self, tracker: &Tracker, believed: Shape) -> Result<(), Refusal> {
         if self.is(Wrong::BucketsBeforeStale) {
             self.judge_buckets(tracker)?;
         }
+        let settings = tracker.record.settings;
         let real = Shape {
             buckets: settings.buckets,
             width: settings.width,
         };
-        if believed != real && !self.is(Wrong::BelievedShapeUnread) {
-            return Err(Refusal::Stale);
-        }
-        let beyond = settings.buckets + u64::from(!self.is(Wrong::PointOfB));
-        if number >= beyond {
-            return Err(Refusal::Point);
-        }
-        self.judge_buckets(tracker)
+        let stale = believed != real && !self.is(Wrong::BelievedShapeUnread);
+        refuse_if(stale, Refusal::Stale)
+    }
+
+    fn beyond(&self, settings: Settings, number: u64) -> bool {
+        number >= settings.buckets + u64::from(!self.is(Wrong::PointOfB))
     }
 
     fn judge_buckets(&self, tracker: &Tracker) -> Result<(), Refusal> {
@@ -580,10 +712,8 @@ impl Model {
             }
             sum += u128::from(tracker.counts[bucket]);
         }
-        if sum > 256 * u128::from(references) && !self.is(Wrong::SumUnjudged) {
-            return Err(Refusal::TornSum);
-        }
-        Ok(())
+        let above = sum > 256 * u128::from(references) && !self.is(Wrong::SumUnjudged);
+        refuse_if(above, Refusal::TornSum)
     }
 
     pub fn plot(
@@ -592,7 +722,7 @@ impl Model {
         believed: Shape,
         number: u64,
     ) -> Result<(f64, f64), Refusal> {
-        let point = self.point(tracker, believed, number)?;
+        let point = self.point_judged(tracker, believed, number, &PLOT_SWAPS)?;
         Ok((nearest(point.size, 1), nearest(point.misses, point.total)))
     }
 }
@@ -668,22 +798,36 @@ fn small(bytes: &[u8]) -> u32 {
     number(bytes) as u32
 }
 
+/// The length of an event. No other kind has one; a wrong model asks, and is given the longest.
+fn length_of(kind: u8) -> usize {
+    match kind {
+        1 => 9,
+        2 => 13,
+        3 => 1,
+        _ => 18,
+    }
+}
+
+/// Whether the bytes end inside a setup event, after a sample limit outside its range.
+fn cut_after_limit(bytes: &[u8]) -> bool {
+    bytes.first() == Some(&4) && (5..18).contains(&bytes.len()) && small(&bytes[1..5]) > 8192
+}
+
 impl Model {
     pub fn read(&self, bytes: &[u8]) -> Result<(Event, usize), Refusal> {
-        if bytes.is_empty() {
-            return Err(Refusal::Short);
-        }
-        let length = match bytes[0] {
-            1 => 9,
-            2 => 13,
-            3 => 1,
-            4 => 18,
-            _ => return Err(Refusal::Kind),
-        };
+        let settings_first = self.is(Wrong::SettingsBeforeShort) && cut_after_limit(bytes);
+        refuse_if(settings_first, Refusal::Settings)?;
+        let kind = bytes.first().copied().unwrap_or(0);
+        let length = length_of(kind);
+        self.judge(
+            [
+                &|| refuse_if(bytes.is_empty(), Refusal::Short),
+                &|| refuse_if(kind == 0 || kind > 4, Refusal::Kind),
+                &|| refuse_if(bytes.len() < length, Refusal::Short),
+            ],
+            &READ_SWAPS,
+        )?;
         self.unless_all_refused(Refusal::Short)?;
-        if bytes.len() < length {
-            return Err(Refusal::Short);
-        }
         let body = &bytes[1..length];
         let event = match bytes[0] {
             1 => Event::Location(number(body)),
