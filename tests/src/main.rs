@@ -10,10 +10,12 @@ mod driver;
 mod interface;
 mod lru;
 mod model;
+mod orders;
 mod program;
 mod published;
 mod random;
 mod runs;
+mod states;
 mod tally;
 mod traces;
 
@@ -23,12 +25,16 @@ use tally::Tally;
 /// How much is tried. Each test prints its size.
 struct Sizes {
     damaged_calls: u64,
+    ordered_states: u64,
+    ordered_inputs: u64,
     random_inputs: u64,
     long_input: usize,
 }
 
 const NATIVE: Sizes = Sizes {
     damaged_calls: 1_000_000,
+    ordered_states: 5000,
+    ordered_inputs: 100,
     random_inputs: 1500,
     long_input: 20_000_000,
 };
@@ -36,6 +42,8 @@ const NATIVE: Sizes = Sizes {
 /// Under an emulator everything takes many times as long.
 const EMULATED: Sizes = Sizes {
     damaged_calls: 250_000,
+    ordered_states: 1000,
+    ordered_inputs: 30,
     random_inputs: 500,
     long_input: 5_000_000,
 };
@@ -55,6 +63,31 @@ fn library(sizes: &Sizes, seed: u64) -> Result<(), String> {
     if lowerings < 1000 {
         return Err("the clean runs lowered the threshold too seldom".to_string());
     }
+    Ok(())
+}
+
+/// The order of refusals, pair by pair.
+fn orders(sizes: &Sizes, seed: u64) -> Result<(), String> {
+    let model = Model::right();
+    let mut tally = Tally::default();
+    orders::library(&model, seed, sizes.ordered_states, &mut tally)?;
+    println!(
+        "refusal orders: {} pairs of {} calls, {} states agree",
+        orders::pairs(orders::WANTED),
+        orders::WANTED.len(),
+        tally.calls
+    );
+    tally.require(orders::WANTED, sizes.ordered_states)?;
+    let mut tally = Tally::default();
+    orders::program(&model, seed, sizes.ordered_inputs, &mut tally)?;
+    println!(
+        "refusal orders: {} pairs of the program, {} inputs agree",
+        orders::pairs(orders::WANTED_OF_PROGRAM),
+        tally.calls
+    );
+    tally.require(orders::WANTED_OF_PROGRAM, sizes.ordered_inputs)?;
+    let swapped = orders::swapped(seed, 20)?;
+    println!("refusal orders: {swapped} pairs the other way round are noticed, each as that pair");
     Ok(())
 }
 
@@ -100,6 +133,11 @@ fn noticed_by(model: &Model, seed: u64) -> Vec<&'static str> {
             "random inputs",
             traces::random_inputs(model, seed, 300, &mut tally),
         ),
+        (
+            "refusal orders",
+            orders::library(model, seed, 100, &mut tally)
+                .and_then(|()| orders::program(model, seed, 3, &mut tally)),
+        ),
     ];
     let noticing = tests.iter().filter(|(_, result)| result.is_err());
     noticing.map(|(name, _)| *name).collect()
@@ -138,6 +176,7 @@ fn all(seed: u64) -> Result<(), String> {
         }
     };
     library(&sizes, seed)?;
+    orders(&sizes, seed)?;
     program(&sizes, seed)?;
     wrong_models(seed)
 }
