@@ -11,7 +11,7 @@ use rules::Settings;
 use rules::Shape;
 ghost use mathlib.Core.Path.{_≡_};
 ghost use lib.Dec.{ltb};
-ghost use Rattle.rules.specs.Settings.{outOfRange, needed};
+ghost use Rattle.rules.specs.Settings.{outOfRange, needed, outside};
 ghost use Rattle.rules.specs.Answers.{number};
 ghost use Rattle.rules.specs.Conditions.{bucketsTooShort, tooShort, tornRecord, stale};
 ghost use Rattle.rules.specs.Lent.{tablesBefore, bucketsBefore};
@@ -33,31 +33,35 @@ pub fn number_of(why: Refusal) -> u64
     }
 }
 
+// Whether a setting is not from 1 to the largest allowed.
+fn outside(most: u64, setting: u64) -> bool
+    ensures { λ r. ⌜ r ≡ outside most setting ⌝ }
+{
+    (setting == 0) | (most < setting)
+}
+
 // Whether settings, after defaults, are outside their ranges.
 pub fn out_of_range(s: Settings) -> bool
     ensures { λ r. ⌜ r ≡ outOfRange s ⌝ }
 {
-    (s.limit == 0)
-        | (MOST_LIMIT < s.limit)
-        | (s.start == 0)
-        | (FULL_RATE < s.start)
-        | (s.width == 0)
-        | (MOST_WIDTH < s.width)
-        | (s.buckets == 0)
-        | (MOST_BUCKETS < s.buckets)
+    outside(MOST_LIMIT, s.limit)
+        | outside(FULL_RATE, s.start)
+        | outside(MOST_WIDTH, s.width)
+        | outside(MOST_BUCKETS, s.buckets)
         | (MOST_KIND < s.hashing.kind)
 }
 
-// Whether a record is torn.
+// Whether a record is torn. The shape of the test lets the compiler use each part of it later: none stands deep in it.
 pub fn torn(kept: Record) -> bool
     ensures { λ r. ⌜ r ≡ tornRecord kept ⌝ }
 {
     let s = kept.settings;
+    let n = kept.numbers;
     out_of_range(s)
-        | (s.limit < kept.live)
-        | (s.start < kept.threshold)
-        | (kept.numbers.references < kept.numbers.sampled)
-        | (MOST_REFERENCES < kept.numbers.references)
+        | ((s.limit < kept.live)
+            | (s.start < kept.threshold)
+            | (n.references < n.sampled)
+            | (MOST_REFERENCES < n.references))
 }
 
 // Whether a bucket table of so many entries is too short for so many buckets. No table is as long as the sum that would wrap.

@@ -6,7 +6,8 @@ use Rattle.rules.specs.declared.Settings.{Settings}
 use Rattle.rules.specs.declared.Point.{Point}
 use Rattle.rules.specs.declared.Sums.{Sums}
 use Rattle.rules.specs.Answers.{Result, refused, gives}
+use Rattle.rules.specs.Layout.{profileOf}
 
--- point k of fixed widths, from the report's sums
+-- point k, from the report's sums
 abbrev pub fromSums : Settings → (k : ℕ) → Sums → Result Point
-fromSums s k sums = cond (eqb (sums .total) 0) (refused 9) (gives (record { size = k * s .width; hits = sums .hits; misses = sums .total - sums .hits; total = sums .total }))
+fromSums s k sums = cond (eqb (sums .total) 0) (refused 9) (gives (record { size = profileOf s .size k; hits = sums .hits; misses = sums .total - sums .hits; total = sums .total }))

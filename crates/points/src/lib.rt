@@ -27,7 +27,7 @@ fn point_of(s: Settings, number: u64, sums: Sums) -> Pointed
         return Pointed::Refused(Refusal::Empty);
     }
     Pointed::At(Point {
-        size: number * s.width,
+        size: profile::size_of(s.width as u32, number as u32),
         hits: sums.hits,
         misses: sums.total - sums.hits,
         total: sums.total,

@@ -3,7 +3,7 @@ ghost use mathlib.Core.Path.{_≡_};
 ghost use Prim.Native.Nat.{_+_, _≤_};
 ghost use lib.ListN.{length, drop};
 ghost use Rattle.rules.specs.Answers.{readingResult};
-ghost use Rattle.rules.specs.Events.{numberAt, setupBodyOf, whole, readOf, unreadOf};
+ghost use Rattle.rules.specs.Events.{numberAt, setupBodyOf, ifAllThere, readOf, unreadOf};
 use rules::Event;
 use rules::LOCATION_BYTES;
 use rules::RESTART_BYTES;
@@ -13,74 +13,42 @@ use rules::SETUP_BYTES;
 use rules::SPAN_BYTES;
 use rules::SetupBody;
 
-// The number in the bytes from a place on: one, two, four, eight of them.
-fn one_at(bytes: &[u8], at: usize) -> u8
-    requires { ⌜ at + 1 ≤ length (now bytes) ⌝ }
-    ensures { λ r. ⌜ r ≡ numberAt 1 at (now (bytes .entry)) ⌝ }
-{
-    bytes[at]
-}
-
-fn two_at(bytes: &[u8], at: usize) -> u16
-    requires { ⌜ at + 2 ≤ length (now bytes) ⌝ }
-    ensures { λ r. ⌜ r ≡ numberAt 2 at (now (bytes .entry)) ⌝ }
-{
-    let low = one_at(bytes, at);
-    let high = one_at(bytes, at + 1);
-    low as u16 + 256 * (high as u16)
-}
-
-fn four_at(bytes: &[u8], at: usize) -> u32
-    requires { ⌜ at + 4 ≤ length (now bytes) ⌝ }
-    ensures { λ r. ⌜ r ≡ numberAt 4 at (now (bytes .entry)) ⌝ }
-{
-    let low = two_at(bytes, at);
-    let high = two_at(bytes, at + 2);
-    low as u32 + 65536 * (high as u32)
-}
-
-fn eight_at(bytes: &[u8], at: usize) -> u64
-    requires { ⌜ at + 8 ≤ length (now bytes) ⌝ }
-    ensures { λ r. ⌜ r ≡ numberAt 8 at (now (bytes .entry)) ⌝ }
-{
-    let low = four_at(bytes, at);
-    let high = four_at(bytes, at + 4);
-    low as u64 + 4294967296 * (high as u64)
-}
-
 fn read_location(bytes: &[u8]) -> Reading
-    ensures { λ r. ⌜ readingResult r ≡ whole 9 (Event.Location (numberAt 8 1 (now (bytes .entry)))) (now (bytes .entry)) ⌝ }
+    ensures { λ r. ⌜ readingResult r ≡ ifAllThere 9 (Event.Location (numberAt 8 1 (now (bytes .entry)))) (now (bytes .entry)) ⌝ }
 {
     if bytes.len() < LOCATION_BYTES {
         return Reading::Refused(Refusal::Short);
     }
-    Reading::Got(Event::Location(eight_at(bytes, 1)), LOCATION_BYTES)
+    Reading::Got(
+        Event::Location(little_endian::get_eight(bytes, 1)),
+        LOCATION_BYTES,
+    )
 }
 
 fn read_span(bytes: &[u8]) -> Reading
     ensures { λ r. ⌜ readingResult r
-        ≡ whole 13 (Event.Span (numberAt 8 1 (now (bytes .entry))) (numberAt 4 9 (now (bytes .entry)))) (now (bytes .entry)) ⌝ }
+        ≡ ifAllThere 13 (Event.Span (numberAt 8 1 (now (bytes .entry))) (numberAt 4 9 (now (bytes .entry)))) (now (bytes .entry)) ⌝ }
 {
     if bytes.len() < SPAN_BYTES {
         return Reading::Refused(Refusal::Short);
     }
-    let offset = eight_at(bytes, 1);
-    let length = four_at(bytes, 9);
+    let offset = little_endian::get_eight(bytes, 1);
+    let length = little_endian::get_four(bytes, 9);
     Reading::Got(Event::Span { offset, length }, SPAN_BYTES)
 }
 
 fn read_setup(bytes: &[u8]) -> Reading
-    ensures { λ r. ⌜ readingResult r ≡ whole 18 (Event.Setup (setupBodyOf (now (bytes .entry)))) (now (bytes .entry)) ⌝ }
+    ensures { λ r. ⌜ readingResult r ≡ ifAllThere 18 (Event.Setup (setupBodyOf (now (bytes .entry)))) (now (bytes .entry)) ⌝ }
 {
     if bytes.len() < SETUP_BYTES {
         return Reading::Refused(Refusal::Short);
     }
     let body = SetupBody {
-        limit: four_at(bytes, 1),
-        start: four_at(bytes, 5),
-        width: four_at(bytes, 9),
-        buckets: four_at(bytes, 13),
-        kind: one_at(bytes, 17),
+        limit: little_endian::get_four(bytes, 1),
+        start: little_endian::get_four(bytes, 5),
+        width: little_endian::get_four(bytes, 9),
+        buckets: little_endian::get_four(bytes, 13),
+        kind: little_endian::get_one(bytes, 17),
     };
     Reading::Got(Event::Setup(body), SETUP_BYTES)
 }

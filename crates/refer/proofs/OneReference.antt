@@ -26,7 +26,7 @@ use Rattle.rules.proofs.Places.{front-length}
 use Rattle.rules.proofs.Bounds.{Whole, whole, AllLong, all-long}
 use Rattle.rules.proofs.Steps.{step-skipped, step-sampled}
 use Rattle.rules.proofs.Clean.{bucket-needed}
-use Rattle.rules.proofs.FullRate.{widths-cut}
+use Rattle.rules.proofs.FullRate.{profile-cut}
 use Rattle.rules.proofs.Calls.{Accepted, refer-bucket, refer-accept}
 use Rattle.buckets.specs.Buckets.{recorded, recordedOf}
 use Rattle.buckets.proofs.Laws.{recorded-needed}
@@ -58,7 +58,7 @@ module _ (x : ℕ) (kept : Record) (ls cs ts : List ℕ) (w : Samples x (tracker
   -- by the place in the live list, and the bucket that goes with it
   module _ (place : Option ℕ) (found : firstPlace x (liveOf s) ≡ place) (j : ℕ) (is : j ≡ bucketFor (profileOf (kept .settings)) (kept .threshold) place) where
     in-needed : j < needed (kept .settings .buckets)
-    in-needed = rw is (bucket-needed (profileOf (kept .settings)) (widths-cut (kept .settings .width) (kept .settings .buckets) (omega (arith, bounds .range .width-low)) .far) (kept .threshold) place)
+    in-needed = rw is (bucket-needed (profileOf (kept .settings)) (profile-cut (kept .settings) (bounds .range) .far) (kept .threshold) place)
 
     torn-same : tornFor x s ≡ tornAt (kept .numbers .references) (kept .threshold) j (bucketsOf cs ts)
     torn-same = rw (w .below, found, ← is)

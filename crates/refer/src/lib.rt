@@ -12,8 +12,8 @@ use rules::Refusal;
 ghost use mathlib.Core.Path.{_≡_};
 ghost use mathlib.Core.Option.{some, none};
 ghost use Prim.Native.Nat.{_<_, _≤_};
-ghost use Rattle.rules.specs.Settings.{mostReferences, mostBuckets, mostLimit};
-ghost use Rattle.rules.specs.Reference.{widths, firstPlace, scaledDistance};
+ghost use Rattle.rules.specs.Settings.{mostReferences, mostLimit};
+ghost use Rattle.rules.specs.Reference.{firstPlace, scaledDistance};
 ghost use Rattle.rules.specs.Answers.{replyResult};
 ghost use Rattle.rules.specs.Order.{outcome};
 ghost use Rattle.rules.specs.Layout.{tracker, liveOf};
@@ -50,16 +50,12 @@ fn counted_in(kept: Record, threshold: u64, live: u64, sampled: u64) -> Record
     }
 }
 
-// The bucket of a place in the live list: that of its scaled distance, or far.
-fn bucket_of(place: usize, threshold: u64, width: u64, buckets: u64) -> usize
-    requires { ⌜ (place < mostLimit) × (0 < threshold) × (0 < width) × (buckets ≤ mostBuckets) ⌝ }
-    ensures { λ r. ⌜ r ≡ widths width buckets .bucketOf (scaledDistance threshold place) ⌝ }
+// The distance of a place in the live list, as it counts at full rate.
+fn scaled_distance(place: usize, threshold: u64) -> u64
+    requires { ⌜ (place < mostLimit) × (0 < threshold) ⌝ }
+    ensures { λ r. ⌜ r ≡ scaledDistance threshold place ⌝ }
 {
-    let bucket = (place as u64) * FULL_RATE / threshold / width;
-    if buckets <= bucket {
-        return buckets as usize;
-    }
-    bucket as usize
+    (place as u64) * FULL_RATE / threshold
 }
 
 // A sampled reference to a location that stands at a place of the live list.
@@ -77,7 +73,8 @@ fn again_at(
         ≡ referOf location (trackerBefore kept locations counts thresholds) ⌝ }
 {
     let threshold = kept.threshold;
-    let bucket = bucket_of(place, threshold, kept.settings.width, kept.settings.buckets);
+    let distance = scaled_distance(place, threshold);
+    let bucket = profile::bucket_of(kept.settings.width, kept.settings.buckets, distance) as usize;
     let references = kept.numbers.references as u32;
     if buckets::record_in(counts, thresholds, bucket, threshold, references) {
         live::to_front(locations, place, location);

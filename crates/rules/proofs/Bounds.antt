@@ -5,10 +5,11 @@ use mathlib.Core.Bool.{false}
 use native.Mathlib.Nat.{mul-le-mul-left, le-trans}
 use native.Mathlib.Omega.{arith}
 use lib.ListN.{length}
+use lib.Dec.{eqb}
 use borrow.Author.Tests.{eqb-false, ltb-false, ne-eqb, le-ltb}
 use Rattle.rules.specs.declared.Settings.{Settings}
 use Rattle.rules.specs.declared.Record.{Record}
-use Rattle.rules.specs.Settings.{outOfRange, Histogram, Tables, needed, fullRate, mostReferences, mostBuckets, mostLimit, mostWidth, oneReference}
+use Rattle.rules.specs.Settings.{outOfRange, Histogram, Tables, needed, fullRate, mostReferences, mostBuckets, mostLimit, mostWidth, oneReference, outside}
 use Rattle.rules.specs.Reference.{rescaled}
 use Rattle.rules.specs.Conditions.{bucketsTooShort, tooShort, tornRecord, tornBucket}
 use Rattle.rules.proofs.Tests.{neither}
@@ -26,27 +27,30 @@ pub record InRange (s : Settings) : Type 0 where
   pub buckets-high : s .buckets ≤ mostBuckets
   pub kind-high : s .hashing .kind ≤ 1
 
+inside : (most x : ℕ) → outside most x ≡ false → (x ≡ 0 → ⊥) × (x ≤ most)
+inside most x e = let p = neither {a = eqb x 0} e in (eqb-false x 0 (p .0), ltb-false most x (p .1))
+
 pub in-range : (s : Settings) → outOfRange s ≡ false → InRange s
 unfolding outOfRange
 in-range s e =
-    let p9 = neither e in
-    let p8 = neither (p9 .0) in
-    let p7 = neither (p8 .0) in
-    let p6 = neither (p7 .0) in
-    let p5 = neither (p6 .0) in
+    let p5 = neither e in
     let p4 = neither (p5 .0) in
     let p3 = neither (p4 .0) in
     let p2 = neither (p3 .0) in
+    let limit = inside mostLimit (s .limit) (p2 .0) in
+    let start = inside fullRate (s .start) (p2 .1) in
+    let width = inside mostWidth (s .width) (p3 .1) in
+    let buckets = inside mostBuckets (s .buckets) (p4 .1) in
     record {
-      limit-low = eqb-false (s .limit) 0 (p2 .0);
-      limit-high = ltb-false mostLimit (s .limit) (p2 .1);
-      start-low = eqb-false (s .start) 0 (p3 .1);
-      start-high = ltb-false fullRate (s .start) (p4 .1);
-      width-low = eqb-false (s .width) 0 (p5 .1);
-      width-high = ltb-false mostWidth (s .width) (p6 .1);
-      buckets-low = eqb-false (s .buckets) 0 (p7 .1);
-      buckets-high = ltb-false mostBuckets (s .buckets) (p8 .1);
-      kind-high = ltb-false 1 (s .hashing .kind) (p9 .1);
+      limit-low = limit .0;
+      limit-high = limit .1;
+      start-low = start .0;
+      start-high = start .1;
+      width-low = width .0;
+      width-high = width .1;
+      buckets-low = buckets .0;
+      buckets-high = buckets .1;
+      kind-high = ltb-false 1 (s .hashing .kind) (p5 .1);
     }
 
 -- a record that is not torn
@@ -61,17 +65,17 @@ pub record Whole (kept : Record) : Type 0 where
 pub whole : (kept : Record) → tornRecord kept ≡ false → Whole kept
 unfolding tornRecord
 whole kept e =
-    let p5 = neither e in
-    let p4 = neither (p5 .0) in
+    let p = neither e in
+    let p4 = neither (p .1) in
     let p3 = neither (p4 .0) in
     let p2 = neither (p3 .0) in
     record {
-      settings-whole = p2 .0;
-      range = in-range (kept .settings) (p2 .0);
-      live-high = ltb-false (kept .settings .limit) (kept .live) (p2 .1);
-      threshold-high = ltb-false (kept .settings .start) (kept .threshold) (p3 .1);
-      sampled-high = ltb-false (kept .numbers .references) (kept .numbers .sampled) (p4 .1);
-      references-high = ltb-false mostReferences (kept .numbers .references) (p5 .1);
+      settings-whole = p .0;
+      range = in-range (kept .settings) (p .0);
+      live-high = ltb-false (kept .settings .limit) (kept .live) (p2 .0);
+      threshold-high = ltb-false (kept .settings .start) (kept .threshold) (p2 .1);
+      sampled-high = ltb-false (kept .numbers .references) (kept .numbers .sampled) (p3 .1);
+      references-high = ltb-false mostReferences (kept .numbers .references) (p4 .1);
     }
 
 -- and the other way round

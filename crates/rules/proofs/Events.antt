@@ -17,7 +17,7 @@ use Rattle.rules.specs.declared.Written.the-variants as written
 use Rattle.rules.specs.Lists.{over}
 use Rattle.rules.specs.Answers.{Result, refused, gives, Got, readingResult, writtenResult}
 use Rattle.rules.specs.Order.{outcome}
-use Rattle.rules.specs.Events.{numberAt, eventBytes, eventLength, setupBodyOf, unknown, wholeLength, eventOf, readOf, whole, writeOf}
+use Rattle.rules.specs.Events.{numberAt, eventBytes, eventLength, setupBodyOf, unknown, wholeLength, eventOf, readOf, ifAllThere, writeOf}
 use Rattle.rules.proofs.Tests.{cases, neither}
 use Rattle.rules.proofs.Order.{not-both}
 
@@ -28,7 +28,7 @@ got e n = gives (record { event = e; taken = n })
 
 -- the rule of reading, with k for the first byte
 abbrev pub ofKind : (k : ℕ) → List ℕ → Result Got
-ofKind k s = cond (unknown k) (refused 8) (whole (wholeLength k) (eventOf k s) s)
+ofKind k s = cond (unknown k) (refused 8) (ifAllThere (wholeLength k) (eventOf k s) s)
 
 -- a first byte is one of the four kinds, or none is
 pub by-kind : {C : Type 0} (k : ℕ) → (k ≡ 1 → C) → (k ≡ 2 → C) → (k ≡ 3 → C) → (k ≡ 4 → C) → (unknown k ≡ true → C) → C
@@ -56,17 +56,17 @@ read-other s any a b c d = by-kind (getD s 0 0) (λ e. absurd (a e)) (λ e. absu
 -- ---- an event with all its bytes there, or with too few
 
 module _ (n : ℕ) (s : List ℕ) where
-  pub whole-fits : {e f : Event} → e ≡ f → n ≤ length s → got e n ≡ whole n f s
+  pub whole-fits : {e f : Event} → e ≡ f → n ≤ length s → got e n ≡ ifAllThere n f s
   whole-fits is h = simp (le-ltb _ _ h) (ap (λ z. got z n) is)
 
-  pub whole-short : (e : Event) → length s < n → refused 7 ≡ whole n e s
+  pub whole-short : (e : Event) → length s < n → refused 7 ≡ ifAllThere n e s
   whole-short e h = simp (lt-ltb _ _ h)
 
 -- ---- what holds of any reading
 
 -- to show P of a reading, show it of refusals, and of each kind of event where all its bytes are there
 module _ (P : Result Got → Type 0) (s : List ℕ) (none : (n : ℕ) → P (refused n)) where
-  by-whole : (n : ℕ) (e : Event) → readOf s ≡ whole n e s → (n ≤ length s → P (got e n)) → P (readOf s)
+  by-whole : (n : ℕ) (e : Event) → readOf s ≡ ifAllThere n e s → (n ≤ length s → P (got e n)) → P (readOf s)
   by-whole n e is f = cases (ltb (length s) n)
       (λ h. rw (is, h) (none 7))
       (λ h. rw (is, h) (f (ltb-false _ _ h)))

@@ -11,7 +11,7 @@ use lib.Seq.{getD-take, take-append-le, take-nil, take-take}
 use borrow.Author.Tests.{le-ltb, ltb-true}
 use Rattle.rules.specs.declared.Event.{Event}
 use Rattle.rules.specs.Answers.{Result, refused, gives, Got}
-use Rattle.rules.specs.Events.{numberAt, whole, readOf}
+use Rattle.rules.specs.Events.{numberAt, ifAllThere, readOf}
 use Rattle.rules.proofs.Tests.{cases}
 use Rattle.rules.proofs.Order.{not-both}
 use Rattle.rules.proofs.Events.{ofKind, by-kind, read-empty, read-kind, by-reading, taken}
@@ -75,7 +75,7 @@ read-front n s {g} h l = read-same s (take n s) h (sym (take-take (g .taken) n s
 
 -- ---- a refusal: 7 where there are too few bytes, or 8, whatever stands behind
 
-whole-refused : (n : ℕ) (e : Event) (s : List ℕ) {m : ℕ} → whole n e s ≡ refused m → (m ≡ 7) × (length s < n)
+whole-refused : (n : ℕ) (e : Event) (s : List ℕ) {m : ℕ} → ifAllThere n e s ≡ refused m → (m ≡ 7) × (length s < n)
 whole-refused n e s {m} is = cases (ltb (length s) n)
     (λ h. ((let q = simp h at is in cc), ltb-true _ _ h))
     (λ h. absurd (not-both {a = record { event = e; taken = n }} is (simp h)))
@@ -88,7 +88,7 @@ kind-refused {C} k s {m} is short other = by-kind k
     (λ e. too-few 18 _ (omega arith) (rw e at is))
     (λ u. other (let q = simp u at is in cc) (λ t. simp u))
   where
-    too-few : (n : ℕ) (e : Event) → n ≤ 18 → whole n e s ≡ refused m → C
+    too-few : (n : ℕ) (e : Event) → n ≤ 18 → ifAllThere n e s ≡ refused m → C
     too-few n e h q = let w = whole-refused n e s q in short (w .0, omega (arith, w .1))
 
 kind-first : (x : ℕ) (s : List ℕ) → readOf (x ∷ s) ≡ ofKind x (x ∷ s)

@@ -1,10 +1,10 @@
 -- Demand 2 at full rate over one reference: the histogram stays the least-recently-used caches', for any profile whose buckets are cut where its point sizes say. Assumes nothing.
-use Prim.Native.Nat.{ℕ, zero, suc, _+_, _*_, _/_, _≤_, _<_}
+use Prim.Native.Nat.{ℕ, zero, suc, _+_, _*_, _/_, _^_, _≤_, _<_}
 use mathlib.Core.Path.{_≡_, refl, sym, ap, ap₂, _∙_}
 use mathlib.Core.Bool.{Bool, true}
 use mathlib.Core.List.{List, _∷_}
 use mathlib.Core.Option.{some}
-use native.Mathlib.Nat.{mul-div-cancel, div-lt-iff-lt-mul}
+use native.Mathlib.Nat.{mul-div-cancel, div-lt-iff-lt-mul, mul-le-mul-left}
 use native.Mathlib.Omega.{arith}
 use lib.ListN.{length}
 use lib.Dec.{eqb, ltb, leb, lit<}
@@ -52,6 +52,10 @@ widths-cut width buckets pos = record {
 -- a record's own profile is one
 pub profile-cut : (s : Settings) → InRange s → Cut (profileOf s)
 profile-cut s r = widths-cut (s .width) (s .buckets) (omega (arith, r .width-low))
+
+-- and a double holds each of its sizes
+pub size-fits : (s : Settings) → InRange s → (k : ℕ) → k ≤ s .buckets → profileOf s .size k ≤ 2 ^ 53
+size-fits s r k l = omega (arith, mul-le-mul-left k (r .width-high), r .buckets-high)
 
 -- what a histogram holds at full rate: of `references` references, `hit n` found their block in a cache of n blocks
 pub record Exact (f : Profile) (hit : ℕ → ℕ) (references : ℕ) (g : Histogram) : Type 0 where

@@ -31,7 +31,7 @@ length-bytes : (n x : ℕ) → length (bytesOf n x) ≡ n
 length-bytes zero x = refl
 length-bytes (suc n) x = ap suc (length-bytes n (x / 256))
 
-sets-append : (l a b : List ℕ) (at : ℕ) → sets (sets l at a) (at + length a) b ≡ sets l at (a ++ b)
+pub sets-append : (l a b : List ℕ) (at : ℕ) → sets (sets l at a) (at + length a) b ≡ sets l at (a ++ b)
 sets-append l [] b at = rw add-zero
 sets-append l (x ∷ a) b at = rw (add-suc, ← suc-add at (length a)) (sets-append (set l at x) a b (suc at))
 

@@ -27,8 +27,9 @@ tooShort s t = ltb (length (t .locations)) (s .limit) || bucketsTooShort s (t .h
 -- the record
 unfoldable pub tornRecord : Record → Bool
 tornRecord kept =
-    outOfRange (kept .settings) || ltb (kept .settings .limit) (kept .live) || ltb (kept .settings .start) (kept .threshold)
-    || ltb (kept .numbers .references) (kept .numbers .sampled) || ltb mostReferences (kept .numbers .references)
+    outOfRange (kept .settings)
+    || (ltb (kept .settings .limit) (kept .live) || ltb (kept .settings .start) (kept .threshold)
+    || ltb (kept .numbers .references) (kept .numbers .sampled) || ltb mostReferences (kept .numbers .references))
 
 -- a bucket: threshold 0, below t or above P, or count above 256·references
 unfoldable pub tornBucket : (references t count threshold : ℕ) → Bool

@@ -92,8 +92,8 @@ readOf s =
     says (readOrder s) (record { event = eventOf kind s; taken = wholeLength kind })
 
 -- an event of n bytes, where they are all there
-abbrev pub whole : (n : ℕ) → Event → List ℕ → Result Got
-whole n e s = says ((refusal.Short when ltb (length s) n) ∷ []) (record { event = e; taken = n })
+abbrev pub ifAllThere : (n : ℕ) → Event → List ℕ → Result Got
+ifAllThere n e s = says ((refusal.Short when ltb (length s) n) ∷ []) (record { event = e; taken = n })
 
 -- what is unread: what follows the first event, or all when that is refused
 abbrev pub unreadAfter : Result Got → List ℕ → List ℕ

@@ -47,13 +47,14 @@ withDefaults s = record {
 abbrev pub unknownHash : Hashing → Bool
 unknownHash h = ltb 1 (h .kind)
 
+-- a setting is not from 1 to the largest allowed
+abbrev pub outside : (most setting : ℕ) → Bool
+outside most setting = eqb setting 0 || ltb most setting
+
 -- after defaults, a setting is outside its range
 unfoldable pub outOfRange : Settings → Bool
 outOfRange s =
-    eqb (s .limit) 0 || ltb mostLimit (s .limit)
-    || eqb (s .start) 0 || ltb fullRate (s .start)
-    || eqb (s .width) 0 || ltb mostWidth (s .width)
-    || eqb (s .buckets) 0 || ltb mostBuckets (s .buckets)
+    outside mostLimit (s .limit) || outside fullRate (s .start) || outside mostWidth (s .width) || outside mostBuckets (s .buckets)
     || unknownHash (s .hashing)
 
 -- x xor (x shifted right 33)

@@ -1,7 +1,9 @@
 use borrow.Author.Needs.{needs}
+use mathlib.Core.Path.{_∙_}
 use native.Mathlib.Omega.{arith}
 use denote.Ref.{now}
 use Rattle.rules.specs.declared.Event.the-variants.{Setup}
+use Rattle.little_endian.proofs.Laws.{got-there}
 use Rattle.rules.proofs.Events.{whole-fits, whole-short}
 use Rattle.reading.proofs.read_setup.Statement.{statement}
 use Rattle.reading.proofs.read_setup.Tie as tie
@@ -9,39 +11,40 @@ use Rattle.reading.proofs.read_setup.Tie as tie
 returns : tie.Need-returns
 returns c = whole-short 18 (now (c .before .before .args .bytes)) _ (omega arith)
 
-four-at-requires : tie.Need-four-at-requires
-four-at-requires c κs = search needs
+get-four-requires : tie.Need-get-four-requires
+get-four-requires c κs = search needs
 
-four-at-requires-2 : tie.Need-four-at-requires-2
-four-at-requires-2 c κs = search needs
+get-four-requires-2 : tie.Need-get-four-requires-2
+get-four-requires-2 c κs = search needs
 
-four-at-requires-3 : tie.Need-four-at-requires-3
-four-at-requires-3 c κs = search needs
+get-four-requires-3 : tie.Need-get-four-requires-3
+get-four-requires-3 c κs = search needs
 
-four-at-requires-4 : tie.Need-four-at-requires-4
-four-at-requires-4 c κs = search needs
+get-four-requires-4 : tie.Need-get-four-requires-4
+get-four-requires-4 c κs = search needs
 
-one-at-requires : tie.Need-one-at-requires
-one-at-requires c κs = search needs
+get-one-requires : tie.Need-get-one-requires
+get-one-requires c κs = search needs
 
 returns-2 : tie.Need-returns-2
 returns-2 c =
     let d = c .before .before .before .before .before in
-    let limit = c .before .before .before .before .four-at .ensures in
-    let start = c .before .before .before .four-at2 .ensures in
-    let width = c .before .before .four-at3 .ensures in
-    let buckets = c .before .four-at4 .ensures in
-    let kind = c .one-at .ensures in
-    whole-fits 18 (now (d .before .before .args .bytes)) (λ i. Setup (record { limit = limit i; start = start i; width = width i; buckets = buckets i; kind = kind i })) (d .if1 .left)
+    let bytes = now (d .before .before .args .bytes) in
+    let limit = c .before .before .before .before .get-four .ensures ∙ got-there 4 1 bytes (omega (arith, d .if1 .left)) in
+    let start = c .before .before .before .get-four2 .ensures ∙ got-there 4 5 bytes (omega (arith, d .if1 .left)) in
+    let width = c .before .before .get-four3 .ensures ∙ got-there 4 9 bytes (omega (arith, d .if1 .left)) in
+    let buckets = c .before .get-four4 .ensures ∙ got-there 4 13 bytes (omega (arith, d .if1 .left)) in
+    let kind = c .get-one .ensures ∙ got-there 1 17 bytes (omega (arith, d .if1 .left)) in
+    whole-fits 18 bytes (λ i. Setup (record { limit = limit i; start = start i; width = width i; buckets = buckets i; kind = kind i })) (d .if1 .left)
 
 pub read-setup-spec : {M : Type 1} → statement M
 read-setup-spec =
     tie.close
     (tie.spec
     returns
-    four-at-requires
-    four-at-requires-2
-    four-at-requires-3
-    four-at-requires-4
-    one-at-requires
+    get-four-requires
+    get-four-requires-2
+    get-four-requires-3
+    get-four-requires-4
+    get-one-requires
     returns-2)

@@ -1,7 +1,9 @@
 use borrow.Author.Needs.{needs}
+use mathlib.Core.Path.{_∙_}
 use native.Mathlib.Omega.{arith}
 use denote.Ref.{now}
 use Rattle.rules.specs.declared.Event.the-variants.{Span}
+use Rattle.little_endian.proofs.Laws.{got-there}
 use Rattle.rules.proofs.Events.{whole-fits, whole-short}
 use Rattle.reading.proofs.read_span.Statement.{statement}
 use Rattle.reading.proofs.read_span.Tie as tie
@@ -9,16 +11,19 @@ use Rattle.reading.proofs.read_span.Tie as tie
 returns : tie.Need-returns
 returns c = whole-short 13 (now (c .before .before .args .bytes)) _ (omega arith)
 
-eight-at-requires : tie.Need-eight-at-requires
-eight-at-requires c κs = search needs
+get-eight-requires : tie.Need-get-eight-requires
+get-eight-requires c κs = search needs
 
-four-at-requires : tie.Need-four-at-requires
-four-at-requires c κs = search needs
+get-four-requires : tie.Need-get-four-requires
+get-four-requires c κs = search needs
 
 returns-2 : tie.Need-returns-2
 returns-2 c =
     let d = c .before .before in
-    whole-fits 13 (now (d .before .before .args .bytes)) (λ i. Span (c .before .eight-at .ensures i) (c .four-at .ensures i)) (d .if1 .left)
+    let bytes = now (d .before .before .args .bytes) in
+    let offset = c .before .get-eight .ensures ∙ got-there 8 1 bytes (omega (arith, d .if1 .left)) in
+    let length = c .get-four .ensures ∙ got-there 4 9 bytes (omega (arith, d .if1 .left)) in
+    whole-fits 13 bytes (λ i. Span (offset i) (length i)) (d .if1 .left)
 
 pub read-span-spec : {M : Type 1} → statement M
-read-span-spec = tie.close (tie.spec returns eight-at-requires four-at-requires returns-2)
+read-span-spec = tie.close (tie.spec returns get-eight-requires get-four-requires returns-2)

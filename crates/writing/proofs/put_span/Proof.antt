@@ -1,6 +1,10 @@
 use borrow.Author.Needs.{needs}
+use mathlib.Core.Path.{_∙_}
+use mathlib.Core.List.{[], _∷_, _++_}
+use native.Mathlib.Omega.{arith}
+use denote.Ref.{now}
 use Rattle.rules.specs.Events.{bytesOf}
-use Rattle.writing.proofs.Laws.{then}
+use Rattle.little_endian.proofs.Laws.{put-there, put-behind}
 use Rattle.writing.proofs.put_span.Statement.{statement}
 use Rattle.writing.proofs.put_span.Tie as tie
 
@@ -20,9 +24,12 @@ returns : tie.Need-returns
 returns c =
     let second = c .before .before .before .before .before .before in
     let first = second .before .before .before .before in
-    let a = first .before .before .before .args in
-    let offset = then 1 (bytesOf 8 (a .offset)) (first .put-one .ensures) (second .put-eight .ensures) in
-    then 9 (bytesOf 4 (a .bytes)) offset (c .before .before .put-four .ensures)
+    let start = first .before .before .before in
+    let a = start .args in
+    let l = now (a .buffer) in
+    let kind = first .put-one .ensures ∙ put-there 1 0 2 l (omega (arith, start .pre)) in
+    let offset = put-behind l (2 ∷ []) 8 (a .offset) kind (omega (arith, start .pre)) (second .put-eight .ensures) in
+    put-behind l (2 ∷ bytesOf 8 (a .offset)) 4 (a .bytes) offset (start .pre) (c .before .before .put-four .ensures)
 
 pub put-span-spec : {M : Type 1} → statement M
 put-span-spec =
