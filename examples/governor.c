@@ -1,6 +1,7 @@
 /*
- * The spring incident, replayed. A governor plans with a point of a long curve and keeps that curve's shape. The curve is set up
- * anew, shorter. The old point, asked for with the old shape, is refused by name, and the governor asks again with the new shape.
+ * The spring incident, replayed. A governor plans with a point of a long curve and keeps that curve's shape. The curve is set up anew,
+ * shorter. Asked for with the old shape, the old point is refused by name: Stale. Asked for with the new shape, it is refused as past
+ * the end: Point. Then the governor plans a new point, and that is answered.
  */
 #include "rockgingham.h"
 
@@ -41,7 +42,7 @@ static uint64_t refer(struct tracker *t, uint64_t location)
                              BUCKETS + 2);
 }
 
-/* A loop over so many blocks, three times. */
+/* Reads so many blocks in a row, three times over. */
 static uint64_t work(struct tracker *t, uint64_t blocks)
 {
     for (uint64_t turn = 0; turn < 3; turn++) {
@@ -61,7 +62,7 @@ static struct rockgingham_shape shape_of(const struct tracker *t)
     return shape;
 }
 
-/* Asks for the governor's point and prints what it is told. */
+/* Asks for the governor's point and prints the answer. */
 static uint64_t ask(const struct governor *g, const struct tracker *t)
 {
     uint64_t point[4];
@@ -77,7 +78,7 @@ static uint64_t ask(const struct governor *g, const struct tracker *t)
     return refused;
 }
 
-/* One step of the incident: whether its answer is the one that it must have. */
+/* One step of the incident. Returns whether the answer is the expected one. */
 static int step(const char *what, uint64_t answer, uint64_t expected)
 {
     printf("%s: %" PRIu64 " %s\n", what, answer, name_of(answer));

@@ -1,21 +1,24 @@
 /*
  * Rockgingham: miss ratio curves of a storage array's cache, by sampling.
  *
- * The C interface of the static library that `rt staticlib driver` writes (target/staticlib/libdriver.a, x86-64 Linux).
- * The functions are proved: each takes any record, any numbers, and tables of any length with any contents, and ends. It keeps
- * nothing, allocates nothing and calls nothing: all memory is the caller's, lent for the call.
+ * The C interface of the static library that `rt staticlib driver` writes (target/staticlib/libdriver.a, for x86-64 Linux).
  *
- * ANSWERS. Every function (rockgingham_hash aside) answers 0 when it did what it was asked, or the number of a refusal (ROCKGINGHAM_SETTINGS and the others
- * below). A refusal changes no word of a record, no entry of a table, no byte of a buffer and no word of an array for values: what a
- * function gives stands in its array only after the answer 0.
+ * Every function is proved to terminate and to stay inside the memory it is lent. It takes any record, any numbers, and tables
+ * of any length with any contents; no value has to be checked beforehand. A function keeps no state between calls and allocates
+ * nothing: all memory is the caller's, lent for the call. The library needs one function of the C library, memmove.
  *
- * WHAT C MUST KEEP. The proofs begin at the call, so these are the caller's:
- *   - each pointer is valid and aligned for its type, and never null: lend any object with length 0 where there is no table;
+ * RETURN VALUES. Every function but rockgingham_hash returns 0 if it did what it was asked, or the number of a refusal
+ * (ROCKGINGHAM_SETTINGS and the others below). A refused call changes nothing: no word of a record, no entry of a table, no
+ * byte of a buffer, no word of an array for values. So read the array for values only after a return value of 0.
+ *
+ * WHAT THE CALLER MUST GUARANTEE. The proofs begin at the call; these are up to the caller:
+ *   - each pointer is valid and aligned for its type, and never null: where there is no table, pass any object with length 0;
  *   - each length is the true number of entries that may be read (and written, unless the pointer is to const);
- *   - a record has ROCKGINGHAM_RECORD words, and the arrays for values have the lengths that their functions name;
- *   - nothing that a call may write overlaps anything else that the same call is lent;
- *   - no other thread reads or writes what is lent, while a call runs.
- * Everything else is judged by the functions themselves. A record or table damaged in any way is met by an answer.
+ *   - a record has ROCKGINGHAM_RECORD words, and each array for values has the length that its function declares;
+ *   - nothing that a call may write overlaps anything else that is passed to the same call;
+ *   - while a call runs, no other thread reads or writes what was passed to it.
+ * Everything else is judged by the functions themselves. A damaged record or table never leads outside memory or into an
+ * endless loop: each call still returns what docs/RULES.md prescribes for what it was handed.
  */
 #ifndef ROCKGINGHAM_H
 #define ROCKGINGHAM_H
@@ -27,7 +30,7 @@
 extern "C" {
 #endif
 
-/* Refusals, by number. Where several hold, a function gives the first in the order that its comment names. */
+/* Refusals, by number. If several apply, a function returns the first in the order that its comment gives. */
 #define ROCKGINGHAM_SETTINGS 1 /* a setting is outside its range */
 #define ROCKGINGHAM_TABLES 2   /* a lent table, or the buffer for an event, is shorter than needed */
 #define ROCKGINGHAM_TORN 3     /* record: a setting out of range, live above the limit, threshold above the start, sampled above
@@ -36,13 +39,15 @@ extern "C" {
 #define ROCKGINGHAM_FULL 4     /* the record has 2^32 - 1 references already */
 #define ROCKGINGHAM_STALE 5    /* the believed buckets or width differ from the tracker's */
 #define ROCKGINGHAM_POINT 6    /* the point's number is above the buckets */
-#define ROCKGINGHAM_SHORT 7    /* the event is incomplete; no bytes at all too */
+#define ROCKGINGHAM_SHORT 7    /* the event is incomplete, or there are no bytes at all */
 #define ROCKGINGHAM_KIND 8     /* the event's kind byte is 0 or above 4 */
 #define ROCKGINGHAM_EMPTY 9    /* the curve's total is 0 */
 
 /*
- * The record: what a tracker holds beside its tables, as ROCKGINGHAM_RECORD words of 64 bits in this order. Only setup, restart and
- * refer change it. Any words are taken: a record that no call left is judged, and refused 3 if it is torn.
+ * The record: what a tracker holds beside its tables, as ROCKGINGHAM_RECORD words of 64 bits, in this order: the five settings
+ * after defaults, the threshold in force, the number of live locations, and the references and sampled references since the
+ * last fresh start. Only setup, restart and refer change it. Any words are accepted as a record and judged: one that is torn is
+ * refused 3.
  */
 #define ROCKGINGHAM_LIMIT 0
 #define ROCKGINGHAM_START 1
@@ -55,9 +60,7 @@ extern "C" {
 #define ROCKGINGHAM_SAMPLED 8
 #define ROCKGINGHAM_RECORD 9
 
-/*
- * The settings. 0 stands for the default, except for the hash kind, where 0 is a kind.
- */
+/* The settings. 0 stands for the default, except for the hash kind, where 0 is a kind. */
 struct rockgingham_settings {
     uint64_t limit;     /* sample limit S: 1 to 8,192, default 1,024 */
     uint64_t start;     /* starting threshold T0: 1 to 16,777,216 (every reference is sampled), default 1,677,721 (one in ten) */
@@ -67,22 +70,23 @@ struct rockgingham_settings {
 };
 
 /*
- * The hash of a location, 0 to 2^24 - 1: a reference is sampled where it is below the threshold. Any kind but 0 hashes as kind 1
- * does; setup takes no other. This function alone answers no refusal.
+ * The hash of a location, 0 to 2^24 - 1. A reference is sampled if the hash is below the threshold. Any kind but 0 hashes as
+ * kind 1 does; setup accepts only 0 and 1. This is the only function that returns a value and no refusal.
  */
 uint64_t rockgingham_hash(uint64_t hash_kind, uint64_t location);
 
 /*
  * The lent tables, for settings after defaults:
- *   locations    at least `limit` entries
- *   counts       at least `buckets + 2` entries, in units of 1/256 reference; entry `buckets` is far, the next one first
- *   thresholds   at least `buckets + 2` entries
- * Entries past the needed ones are never changed. Entries of `locations` from the record's live number on mean nothing.
+ *   locations    at least `limit` entries: the live locations, latest first
+ *   counts       at least `buckets + 2` entries, in units of 1/256 reference. Entry `buckets` counts the references whose
+ *                distance is past the last bucket ("far"), the next entry the first references ("first")
+ *   thresholds   at least `buckets + 2` entries: for each count, the threshold that it was last recorded under
+ * Entries past the needed ones are never changed. Entries of `locations` from the record's live number on have no meaning.
  */
 
 /*
- * A fresh start with these settings, zeros standing for defaults. Writes the record, the needed counts and the needed thresholds;
- * locations is only measured. Any old contents of record and tables are overwritten unjudged.
+ * A fresh start with these settings, zeros standing for defaults. Writes the record, the needed counts and the needed
+ * thresholds. Of `locations` only the length matters. The old contents of record and tables are not judged.
  * Refusals: 1, 2.
  */
 uint64_t rockgingham_setup(uint64_t record[ROCKGINGHAM_RECORD], struct rockgingham_settings settings,
@@ -96,13 +100,14 @@ uint64_t rockgingham_setup(uint64_t record[ROCKGINGHAM_RECORD], struct rockgingh
 uint64_t rockgingham_restart(uint64_t record[ROCKGINGHAM_RECORD], const uint64_t *locations, size_t locations_length,
                              uint64_t *counts, size_t counts_length, uint32_t *thresholds, size_t thresholds_length);
 
-/* What a reference answers, in answer[0]. */
+/* The answer to a reference, in answer[0]. */
 #define ROCKGINGHAM_SKIPPED 0 /* not sampled */
-#define ROCKGINGHAM_AGAIN 1   /* sampled before: answer[1] is its place in the list of live locations, counted from 0 */
-#define ROCKGINGHAM_FIRST 2   /* sampled, and not in the list */
+#define ROCKGINGHAM_AGAIN 1   /* sampled, and live: answer[1] is its place in the list of live locations, counted from 0 */
+#define ROCKGINGHAM_FIRST 2   /* sampled, and not in that list */
 
 /*
- * One reference to a location. answer[1] is 0 unless answer[0] is ROCKGINGHAM_AGAIN.
+ * One reference to a location. Changes the record, the tables and `answer`; answer[1] is 0 unless answer[0] is
+ * ROCKGINGHAM_AGAIN.
  * Refusals: 3 for the record, 2, 4, then 3 for the single bucket that it would record in.
  */
 uint64_t rockgingham_refer(uint64_t record[ROCKGINGHAM_RECORD], uint64_t answer[2], uint64_t location, uint64_t *locations,
@@ -111,8 +116,9 @@ uint64_t rockgingham_refer(uint64_t record[ROCKGINGHAM_RECORD], uint64_t answer[
 
 /*
  * The shape that the caller believes the curve to have: buckets and width after defaults, as they stand in the record after the
- * setup that the caller knows of. Keep it beside the points that were planned with it, and hand it over with each: a point of a
- * curve that was set up anew since is then refused 5 and never answered from another curve.
+ * setup that the caller knows of. Keep it with the points that were planned with it, and pass it with each: if the curve was
+ * meanwhile set up with another shape, the point is refused 5 and not answered from the new curve. A curve set up anew with the
+ * same shape cannot be told from the old one.
  */
 struct rockgingham_shape {
     uint64_t buckets;
@@ -121,7 +127,7 @@ struct rockgingham_shape {
 
 /*
  * Point `number` of the curve, 0 to buckets: point[0] its size in blocks (number times width), point[1] hits, point[2] misses,
- * point[3] total, in units of 1/256 reference. Changes nothing but `point`.
+ * point[3] total, the last three in units of 1/256 reference. Changes nothing but `point`.
  * Refusals: 3 for the record, 2, 5, 6, 3 for the buckets, 9.
  */
 uint64_t rockgingham_point(const uint64_t record[ROCKGINGHAM_RECORD], uint64_t point[4], struct rockgingham_shape believed,
@@ -129,7 +135,8 @@ uint64_t rockgingham_point(const uint64_t record[ROCKGINGHAM_RECORD], uint64_t p
                            size_t thresholds_length);
 
 /*
- * The same point as a pair of doubles: pair[0] its size, pair[1] misses divided by total, rounded once, to nearest, ties to even.
+ * The same point as a pair of doubles: pair[0] its size, pair[1] misses divided by total, rounded once, to nearest, ties to
+ * even.
  * Refusals: those of rockgingham_point, in that order.
  */
 uint64_t rockgingham_plot(const uint64_t record[ROCKGINGHAM_RECORD], double pair[2], struct rockgingham_shape believed,
@@ -137,7 +144,7 @@ uint64_t rockgingham_plot(const uint64_t record[ROCKGINGHAM_RECORD], double pair
                           size_t thresholds_length);
 
 /*
- * Trace events: one byte of kind, then a body of the length that the kind fixes; numbers are little-endian.
+ * Trace events: one byte of kind, then a body whose length depends on the kind. Numbers are little-endian.
  *   1 location   8 bytes: location                                    one reference
  *   2 span       12: byte offset (8), length (4)                      one reference to offset / 4,096, none if the length is 0
  *   3 restart    none                                                 fresh start, same settings
@@ -149,14 +156,15 @@ uint64_t rockgingham_plot(const uint64_t record[ROCKGINGHAM_RECORD], double pair
 #define ROCKGINGHAM_SETUP_BYTES 18
 
 /*
- * Reads the first event of the bytes. event[0] is its kind, event[1] the number of bytes it took, and from event[2] on stand the
- * numbers of its body in the table's order, then zeros. The settings of a setup event are not judged here.
+ * Reads the first event of the bytes. event[0] is its kind, event[1] the number of bytes it took; from event[2] on come the
+ * numbers of its body, in the order of the table above, then zeros. The settings of a setup event are not judged here, but by
+ * setup.
  * Refusals: 7 if there are no bytes, 8, 7.
  */
 uint64_t rockgingham_read(uint64_t event[7], const uint8_t *bytes, size_t length);
 
 /*
- * Each writes one event at the front of the buffer: exactly the bytes that the constant above names, and no byte after them.
+ * Each writes one event at the front of the buffer: exactly as many bytes as its constant above says, and no byte after them.
  * Refusals: 2 if the buffer is shorter.
  */
 uint64_t rockgingham_write_location(uint64_t location, uint8_t *buffer, size_t length);
