@@ -5,13 +5,15 @@ use mathlib.Core.Bool.{Bool, true, false, cond, _||_}
 use mathlib.Core.List.{List}
 use lib.Dec.{ltb, leb}
 use lib.ListN.{length}
-use Rattle.rules.specs.declared.Sums.{Sums}
 use Rattle.rules.specs.Settings.{Histogram, oneReference}
 use Rattle.rules.specs.Reference.{recordIn}
 use Rattle.rules.specs.Curve.{sumTo, rawTo}
 use Rattle.rules.specs.Answers.{Result, refused, gives}
 use Rattle.rules.specs.Layout.{bucketsOf}
 use Rattle.rules.specs.Conditions.{tornAt, anyTorn, tornTo}
+use Rattle.buckets.specs.declared.Sums.{Sums}
+use Rattle.buckets.specs.declared.Reported.{Reported}
+use Rattle.buckets.specs.declared.Reported.the-variants as reported
 use Rattle.buckets.specs.declared.Added.{Added}
 use Rattle.buckets.specs.declared.Added.the-variants as added
 
@@ -32,6 +34,11 @@ unfoldable pub recordedOf : (references t j : ℕ) → Histogram → Recorded
 recordedOf references t j g =
     cond (unrecordable references t j g) (record { done = false; histogram = g })
     (record { done = true; histogram = recordIn t j g })
+
+-- what a report answers
+abbrev pub reportResult : Reported → Result Sums
+reportResult (reported.Sums s) = gives s
+reportResult reported.Torn = refused 3
 
 -- what the first n buckets say when they are reported under t
 unfoldable pub reportOf : (references t n point : ℕ) → Histogram → Result Sums

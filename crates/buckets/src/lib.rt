@@ -1,17 +1,28 @@
 // The histogram in its two lent tables: a count in units of 1/256 reference to each bucket, and the threshold it was last recorded under.
 use rules::FULL_RATE;
 use rules::ONE_REFERENCE;
-use rules::Reported;
-use rules::Sums;
 ghost use mathlib.Core.Path.{_≡_};
 ghost use mathlib.Core.Bool.{false};
 ghost use Prim.Native.Nat.{_≤_, min};
 ghost use lib.ListN.{length};
-ghost use Rattle.rules.specs.Answers.{reportResult};
 ghost use Rattle.rules.specs.Layout.{bucketsOf};
 ghost use Rattle.rules.specs.Conditions.{tornBucket};
 ghost use Rattle.rules.specs.Lent.{bucketsBefore};
-ghost use Rattle.buckets.specs.Buckets.{recorded, recordedOf, SoFar, addedTo, reportOf};
+ghost use Rattle.buckets.specs.Buckets.{reportResult, recorded, recordedOf, SoFar, addedTo, reportOf};
+
+// The sums of a report: the hits to a point, and the total.
+pub struct Sums {
+    pub hits: u64,
+    pub total: u64,
+}
+
+// The answer of a report.
+pub enum Reported {
+    // Its sums.
+    Sums(Sums),
+    // A bucket is torn, the raw counts are too many, or a table is too short.
+    Torn,
+}
 
 // The raw counts of some buckets together, and the same as they are reported.
 struct Adding {

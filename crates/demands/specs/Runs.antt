@@ -9,16 +9,17 @@ use Rattle.rules.specs.Reference.{Reply, skipped, first, again}
 use Rattle.rules.specs.Answers.{gives}
 use Rattle.rules.specs.Layout.{Tracker}
 use Rattle.rules.specs.Calls.{setupOf, restartOf, referOf}
+use Rattle.rules.specs.History.{Reference}
 
 -- a run since a fresh start, with the record and tables it left: begun by an accepted setup, or by an accepted restart of any record
 -- and tables; continued by accepted references
-pub data Run : List ℕ → Tracker → Type 0 where
+pub data Run : List Reference → Tracker → Type 0 where
   setup : (given : Settings) (t : Tables) {s : Tracker} → setupOf given t ≡ record { result = gives (s .kept); left = s .tables } → Run [] s
   restart : (kept : Record) (t : Tables) {s : Tracker} → restartOf kept t ≡ record { result = gives (s .kept); left = s .tables } → Run [] s
-  refer : {past : List ℕ} {s after : Tracker} {x : ℕ} {r : Reply} → Run past s → referOf x s ≡ record { result = gives r; left = after } → Run (x ∷ past) after
+  refer : {past : List Reference} {s after : Tracker} {x : Reference} {r : Reply} → Run past s → referOf x s ≡ record { result = gives r; left = after } → Run (x ∷ past) after
 
 -- the answers of a run, newest first
-abbrev pub answers : {past : List ℕ} {s : Tracker} → Run past s → List Reply
+abbrev pub answers : {past : List Reference} {s : Tracker} → Run past s → List Reply
 answers (setup given t e) = []
 answers (restart kept t e) = []
 answers (refer {r = r} run e) = r ∷ answers run

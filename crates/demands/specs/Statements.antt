@@ -15,7 +15,7 @@ use Rattle.rules.specs.Answers.{refused, gives}
 use Rattle.rules.specs.Events.{eventBytes, eventLength, Fits, readOf, writeOf}
 use Rattle.rules.specs.Layout.{Tracker, liveOf, hashFor, profileOf}
 use Rattle.rules.specs.Calls.{setupOf, restartOf, referOf, ownPoint}
-use Rattle.rules.specs.History.{recency, distance, Largest}
+use Rattle.rules.specs.History.{recency, distance, Largest, Reference, locations}
 use Rattle.rules.specs.Cache.{hits}
 use Rattle.demands.specs.Runs.{Run, answers, sampledIn}
 
@@ -28,39 +28,39 @@ inForce s x = ltb (hashFor (s .kept .settings) x) (s .kept .threshold)
 -- "However often the threshold fell, it is the largest whole number, not above the starting one, below which at most the limit of
 -- different referenced locations hash."
 abbrev pub Threshold : Type 0
-Threshold = (past : List ℕ) (s : Tracker) → Run past s
-    → Largest (hashFor (s .kept .settings)) (s .kept .settings .limit) (s .kept .settings .start) past (s .kept .threshold)
+Threshold = (past : List Reference) (s : Tracker) → Run past s
+    → Largest (hashFor (s .kept .settings)) (s .kept .settings .limit) (s .kept .settings .start) (locations past) (s .kept .threshold)
 
 -- "The live list is exactly those locations, latest first,
 abbrev pub LiveList : Type 0
-LiveList = (past : List ℕ) (s : Tracker) → Run past s → liveOf s ≡ keep (inForce s) (recency past)
+LiveList = (past : List Reference) (s : Tracker) → Run past s → liveOf s ≡ keep (inForce s) (recency (locations past))
 
 -- as if nothing else had been tracked.": it is the live list of a run, on the same settings, of just the references that hash below it
-pub record Alone (past : List ℕ) (s : Tracker) : Type 0 where
+pub record Alone (past : List Reference) (s : Tracker) : Type 0 where
   pub other : Tracker
   pub run : Run (keep (inForce s) past) other
   pub same-settings : other .kept .settings ≡ s .kept .settings
   pub same-list : liveOf other ≡ liveOf s
 
 abbrev pub NothingElse : Type 0
-NothingElse = (past : List ℕ) (s : Tracker) → Run past s → Alone past s
+NothingElse = (past : List Reference) (s : Tracker) → Run past s → Alone past s
 
 -- "Each distance answered is the number of different other locations, hashing below the threshold then in force, referenced since that
 -- location's previous reference.": the whole answer is the history's
-abbrev pub historyReply : Tracker → List ℕ → ℕ → Reply
-historyReply s past x = cond (inForce s x) (cond (has x past) (again (distance (inForce s) x past)) first) skipped
+abbrev pub historyReply : Tracker → List Reference → ℕ → Reply
+historyReply s past x = cond (inForce s x) (cond (has x (locations past)) (again (distance (inForce s) x (locations past))) first) skipped
 
 abbrev pub Answers : Type 0
-Answers = (past : List ℕ) (s after : Tracker) (x : ℕ) (r : Reply) → Run past s → referOf x s ≡ record { result = gives r; left = after } → r ≡ historyReply s past x
+Answers = (past : List Reference) (s after : Tracker) (x : ℕ) (r : Reply) → Run past s → referOf x s ≡ record { result = gives r; left = after } → r ≡ historyReply s past x
 
 -- references is the number of references since the start, sampled of those answered Again or First, live the list's length
-pub record Numbered (past : List ℕ) (s : Tracker) (replies : List Reply) : Type 0 where
+pub record Numbered (past : List Reference) (s : Tracker) (replies : List Reply) : Type 0 where
   pub references-is : s .kept .numbers .references ≡ length past
   pub sampled-is : s .kept .numbers .sampled ≡ sampledIn replies
   pub live-is : s .kept .live ≡ length (liveOf s)
 
 abbrev pub Numbers : Type 0
-Numbers = (past : List ℕ) (s : Tracker) (run : Run past s) → Numbered past s (answers run)
+Numbers = (past : List Reference) (s : Tracker) (run : Run past s) → Numbered past s (answers run)
 
 -- ---- demand 2
 
@@ -69,17 +69,17 @@ Numbers = (past : List ℕ) (s : Tracker) (run : Run past s) → Numbered past s
 abbrev pub sizeAt : Tracker → (point : ℕ) → ℕ
 sizeAt s k = profileOf (s .kept .settings) .size k
 
-pub record LikeLru (past : List ℕ) (s : Tracker) (k : ℕ) : Type 0 where
+pub record LikeLru (past : List Reference) (s : Tracker) (k : ℕ) : Type 0 where
   pub some-made : 0 < length past → ownPoint (s .kept) k (s .tables .histogram) ≡ gives (record {
     size = sizeAt s k;
-    hits = oneReference * hits (sizeAt s k) past;
-    misses = oneReference * length past - oneReference * hits (sizeAt s k) past;
+    hits = oneReference * hits (sizeAt s k) (locations past);
+    misses = oneReference * length past - oneReference * hits (sizeAt s k) (locations past);
     total = oneReference * length past;
   })
   pub none-made : past ≡ [] → ownPoint (s .kept) k (s .tables .histogram) ≡ refused 9
 
 abbrev pub FullRate : Type 0
-FullRate = (past : List ℕ) (s : Tracker) → Run past s → s .kept .settings .start ≡ fullRate → length (recency past) ≤ s .kept .settings .limit
+FullRate = (past : List Reference) (s : Tracker) → Run past s → s .kept .settings .start ≡ fullRate → length (recency (locations past)) ≤ s .kept .settings .limit
     → (k : ℕ) → k ≤ s .kept .settings .buckets → LikeLru past s k
 
 -- "Trace events written are read back the same.": with their length, any bytes behind them
@@ -94,12 +94,12 @@ WrittenReadBack = (e : Event) → Fits e → (buffer : List ℕ) (n : ℕ) → w
 
 -- a reference is refused only when Full, and then it is
 abbrev pub OnlyFull : Type 0
-OnlyFull = (past : List ℕ) (s : Tracker) (x : ℕ) → Run past s
+OnlyFull = (past : List Reference) (s : Tracker) (x : ℕ) → Run past s
     → referOf x s ≡ cond (eqb (length past) mostReferences) (record { result = refused 4; left = s }) (record { result = gives (historyReply s past x); left = referOf x s .left })
 
 -- a point under the record's own shape is refused only 6 or 9, exactly on their conditions
 abbrev pub OnlyPointOrEmpty : Type 0
-OnlyPointOrEmpty = (past : List ℕ) (s : Tracker) (k : ℕ) → Run past s
+OnlyPointOrEmpty = (past : List Reference) (s : Tracker) (k : ℕ) → Run past s
     → ownPoint (s .kept) k (s .tables .histogram)
     ≡ cond (ltb (s .kept .settings .buckets) k) (refused 6)
     (cond (eqb (totalOf (s .kept .threshold) (s .kept .settings .buckets) (s .tables .histogram)) 0) (refused 9)
@@ -114,16 +114,16 @@ pub record Bounded (s : Tracker) (j : ℕ) : Type 0 where
   pub raw-high : rawTo (needed (s .kept .settings .buckets)) (s .tables .histogram) ≤ oneReference * s .kept .numbers .references
 
 abbrev pub Bounds : Type 0
-Bounds = (past : List ℕ) (s : Tracker) → Run past s → (j : ℕ) → j < needed (s .kept .settings .buckets) → Bounded s j
+Bounds = (past : List Reference) (s : Tracker) → Run past s → (j : ℕ) → j < needed (s .kept .settings .buckets) → Bounded s j
 
 -- a refused call leaves the run what it was, so that refused calls may stand anywhere in it
-pub record Unmoved (past : List ℕ) (s : Tracker) : Type 0 where
+pub record Unmoved (past : List Reference) (s : Tracker) : Type 0 where
   pub by-refer : (x n : ℕ) → referOf x s .result ≡ refused n → Run past (referOf x s .left)
   pub by-restart : (n : ℕ) → restartOf (s .kept) (s .tables) .result ≡ refused n → Run past (record { kept = s .kept; tables = restartOf (s .kept) (s .tables) .left })
   pub by-setup : (given : Settings) (n : ℕ) → setupOf given (s .tables) .result ≡ refused n → Run past (record { kept = s .kept; tables = setupOf given (s .tables) .left })
 
 abbrev pub RefusedAnywhere : Type 0
-RefusedAnywhere = (past : List ℕ) (s : Tracker) → Run past s → Unmoved past s
+RefusedAnywhere = (past : List Reference) (s : Tracker) → Run past s → Unmoved past s
 
 -- ---- the right-hand sides are what they say
 

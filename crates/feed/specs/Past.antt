@@ -9,23 +9,24 @@ use Rattle.rules.specs.declared.Event.the-variants.{Location, Span, Restart, Se
 use Rattle.rules.specs.Answers.{gives, Got}
 use Rattle.rules.specs.Events.{readOf, referencesOf}
 use Rattle.rules.specs.Layout.{Tracker}
+use Rattle.rules.specs.History.{Reference}
 use Rattle.demands.specs.Runs.{Run}
 use Rattle.feed.specs.Feed.{Feeding}
 
 -- references, oldest first, in front of those before them
-abbrev pub onto : List ℕ → List ℕ → List ℕ
+abbrev pub onto : List Reference → List Reference → List Reference
 onto [] past = past
 onto (x ∷ xs) past = onto xs (x ∷ past)
 
 -- the references since the last fresh start, newest first, after one event more
-abbrev pub pastAfter : Event → List ℕ → List ℕ
+abbrev pub pastAfter : Event → List Reference → List Reference
 pastAfter (Location x) past = onto (referencesOf (Location x)) past
 pastAfter (Span offset length) past = onto (referencesOf (Span offset length)) past
 pastAfter Restart past = []
 pastAfter (Setup b) past = []
 
 -- after more events, in their order
-abbrev pub pastOf : List Event → List ℕ → List ℕ
+abbrev pub pastOf : List Event → List Reference → List Reference
 pastOf [] past = past
 pastOf (e ∷ es) past = pastOf es (pastAfter e past)
 
@@ -51,5 +52,5 @@ pub data Events : List ℕ → List Event → Type 0 where
 pub record Ran (bytes : List ℕ) (s : Tracker) (f : Feeding) : Type 0 where
   pub events : List Event
   pub are : Events (take (f .taken) bytes) events
-  pub continued : (past : List ℕ) → Run past s → Run (pastOf events past) (f .left)
-  pub from-fresh-start : anyFreshStart events ≡ true → (past : List ℕ) → Run (pastOf events past) (f .left)
+  pub continued : (past : List Reference) → Run past s → Run (pastOf events past) (f .left)
+  pub from-fresh-start : anyFreshStart events ≡ true → (past : List Reference) → Run (pastOf events past) (f .left)

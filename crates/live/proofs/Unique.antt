@@ -1,16 +1,26 @@
 -- Any two results that a promise of this crate allows coincide: what is answered, and every lent table at exit. Assumes nothing.
 use Prim.Native.Nat.{ℕ}
-use mathlib.Core.Path.{_≡_, sym, ap, _∙_}
+use mathlib.Core.Path.{_≡_, refl, sym, ap, _∙_}
 use mathlib.Core.List.{List}
+use mathlib.Core.Option.{Option, some, none}
 use lib.ListN.{take}
 use Rattle.rules.specs.declared.Hashing.{Hashing}
-use Rattle.rules.specs.declared.Found.{Found}
 use Rattle.rules.specs.Settings.{hashOf}
 use Rattle.rules.specs.Reference.{firstPlace, largest}
-use Rattle.rules.specs.Answers.{placeFound}
-use Rattle.rules.proofs.Answers.{found-injective}
+use Rattle.rules.proofs.Answers.{undone}
+use Rattle.live.specs.declared.Found.{Found}
+use Rattle.live.specs.declared.Found.the-variants as found
 use Rattle.live.specs.declared.Lowered.{Lowered}
-use Rattle.live.specs.Live.{movedToFront, remaining, remainingOf, lowering, loweringOf}
+use Rattle.live.specs.Live.{placeFound, movedToFront, remaining, remainingOf, lowering, loweringOf}
+
+-- the answer of a search is decided by the place that it says
+searched : Option ℕ → Found
+searched (some d) = found.At d
+searched none = found.Nothing
+
+found-injective : (a b : Found) → placeFound a ≡ placeFound b → a ≡ b
+unfolding searched
+found-injective = undone placeFound searched (elim [ found.At d ↦ refl | found.Nothing ↦ refl ])
 
 module _ (xs : List ℕ) (n : ℕ) where
   pub first-place-unique : (x : ℕ) (r s : Found) → placeFound r ≡ firstPlace x (take n xs) → placeFound s ≡ firstPlace x (take n xs) → r ≡ s

@@ -2,11 +2,19 @@
 use Prim.Native.Nat.{ℕ}
 use mathlib.Core.Bool.{cond}
 use mathlib.Core.List.{List, _∷_}
+use mathlib.Core.Option.{Option, some, none}
 use lib.Dec.{ltb}
 use lib.ListN.{length, take}
 use Rattle.rules.specs.Lists.{over}
 use Rattle.rules.specs.Reference.{toFront, keepBelow, lowered}
+use Rattle.live.specs.declared.Found.{Found}
+use Rattle.live.specs.declared.Found.the-variants as found
 use Rattle.live.specs.declared.Lowered.{Lowered}
+
+-- the place that a search found
+abbrev pub placeFound : Found → Option ℕ
+placeFound (found.At d) = some d
+placeFound found.Nothing = none
 
 -- x from the place d to the front; a place past the end changes nothing
 unfoldable pub movedToFront : (d x : ℕ) → List ℕ → List ℕ

@@ -1,13 +1,19 @@
 // A list of locations at the front of a lent table: its first n entries, or all of them where the table is shorter.
-use rules::Found;
 use rules::Hashing;
 ghost use mathlib.Core.Path.{_≡_};
 ghost use Prim.Native.Nat.{min, max};
 ghost use lib.ListN.{take};
 ghost use Rattle.rules.specs.Settings.{hashOf};
 ghost use Rattle.rules.specs.Reference.{firstPlace, largest};
-ghost use Rattle.rules.specs.Answers.{placeFound};
-ghost use Rattle.live.specs.Live.{movedToFront, remaining, remainingOf, lowering, loweringOf};
+ghost use Rattle.live.specs.Live.{placeFound, movedToFront, remaining, remainingOf, lowering, loweringOf};
+
+// The answer of a search.
+pub enum Found {
+    // The place, counted from 0.
+    At(usize),
+    // The list has no such location.
+    Nothing,
+}
 
 // The threshold and the number of locations after a lowering.
 pub struct Lowered {

@@ -11,7 +11,7 @@ use borrow.Author.Tests.{le-ltb, ltb-false, eqb-false}
 use Rattle.rules.specs.declared.Record.{Record}
 use Rattle.rules.specs.declared.Shape.{Shape}
 use Rattle.rules.specs.declared.Point.{Point}
-use Rattle.rules.specs.declared.Sums.{Sums}
+use Rattle.buckets.specs.declared.Sums.{Sums}
 use Rattle.rules.specs.Settings.{Histogram, needed}
 use Rattle.rules.specs.Curve.{hitsAt, totalOf, curvePoint, plotPoint}
 use Rattle.rules.specs.Answers.{refused, gives}

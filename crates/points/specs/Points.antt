@@ -4,7 +4,7 @@ use mathlib.Core.Bool.{cond}
 use lib.Dec.{eqb}
 use Rattle.rules.specs.declared.Settings.{Settings}
 use Rattle.rules.specs.declared.Point.{Point}
-use Rattle.rules.specs.declared.Sums.{Sums}
+use Rattle.buckets.specs.declared.Sums.{Sums}
 use Rattle.rules.specs.Answers.{Result, refused, gives}
 use Rattle.rules.specs.Layout.{profileOf}
 

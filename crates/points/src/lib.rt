@@ -1,15 +1,15 @@
 // The points of the curve. Each function takes any record, any believed shape, any point number and tables of any length with any
 // contents.
+use buckets::Reported;
+use buckets::Sums;
 use rules::PlotPoint;
 use rules::Plotted;
 use rules::Point;
 use rules::Pointed;
 use rules::Record;
 use rules::Refusal;
-use rules::Reported;
 use rules::Settings;
 use rules::Shape;
-use rules::Sums;
 ghost use mathlib.Core.Path.{_≡_};
 ghost use Prim.Native.Nat.{_≤_};
 ghost use Rattle.rules.specs.Settings.{mostBuckets, mostWidth};

@@ -1,9 +1,9 @@
 // One reference: the tests, the hash, the live list and the bucket. It takes any record, tables of any length with any contents, and
 // any location.
+use live::Found;
 use live::Lowered;
 use rules::Answer;
 use rules::FULL_RATE;
-use rules::Found;
 use rules::MOST_REFERENCES;
 use rules::Numbers;
 use rules::Record;

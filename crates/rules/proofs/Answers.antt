@@ -2,11 +2,9 @@
 use Prim.Native.Nat.{ℕ, _<_}
 use mathlib.Core.Path.{_≡_, refl, sym, ap, _∙_}
 use mathlib.Core.Bool.{cond}
-use mathlib.Core.Option.{Option, some, none}
 use native.Mathlib.Omega.{arith}
 use lib.Dec.{eqb}
 use Rattle.rules.specs.declared.Point.{Point}
-use Rattle.rules.specs.declared.Sums.{Sums}
 use Rattle.rules.specs.declared.Refusal.{Refusal}
 use Rattle.rules.specs.declared.Refusal.the-variants as refusal
 use Rattle.rules.specs.declared.Started.{Started}
@@ -23,16 +21,12 @@ use Rattle.rules.specs.declared.Reading.{Reading}
 use Rattle.rules.specs.declared.Reading.the-variants as reading
 use Rattle.rules.specs.declared.Written.{Written}
 use Rattle.rules.specs.declared.Written.the-variants as written
-use Rattle.rules.specs.declared.Found.{Found}
-use Rattle.rules.specs.declared.Found.the-variants as found
-use Rattle.rules.specs.declared.Reported.{Reported}
-use Rattle.rules.specs.declared.Reported.the-variants as reported
 use Rattle.rules.specs.Settings.{Tables}
 use Rattle.rules.specs.Reference.{Reply, skipped, first, again}
-use Rattle.rules.specs.Answers.{Result, refused, gives, number, numberOf, Got, startedResult, replyResult, pointResult, plotResult, takenResult, readingResult, writtenResult, reportResult, placeFound}
+use Rattle.rules.specs.Answers.{Result, refused, gives, number, numberOf, Got, startedResult, replyResult, pointResult, plotResult, takenResult, readingResult, writtenResult}
 
 -- what undoes a reading makes it injective
-undone : {A B : Type 0} (f : A → B) (g : B → A) → ((a : A) → g (f a) ≡ a) → (a b : A) → f a ≡ f b → a ≡ b
+pub undone : {A B : Type 0} (f : A → B) (g : B → A) → ((a : A) → g (f a) ≡ a) → (a b : A) → f a ≡ f b → a ≡ b
 undone f g e a b q = sym (e a) ∙ ap g q ∙ e b
 
 -- the refusal of a number
@@ -122,16 +116,3 @@ pub written-injective : (a b : Written) → writtenResult a ≡ writtenResult b 
 unfolding back
 written-injective = undone writtenResult (back written.Refused written.Filled)
     (elim [ written.Filled n ↦ refl | written.Refused r ↦ ap written.Refused (named-number r) ])
-
-pub reported-injective : (a b : Reported) → reportResult a ≡ reportResult b → a ≡ b
-unfolding back
-reported-injective = undone reportResult (back (λ (r : Refusal). reported.Torn) reported.Sums)
-    (elim [ reported.Sums s ↦ refl | reported.Torn ↦ refl ])
-
-place : Option ℕ → Found
-place (some d) = found.At d
-place none = found.Nothing
-
-pub found-injective : (a b : Found) → placeFound a ≡ placeFound b → a ≡ b
-unfolding place
-found-injective = undone placeFound place (elim [ found.At d ↦ refl | found.Nothing ↦ refl ])

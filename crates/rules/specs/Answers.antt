@@ -1,11 +1,9 @@
 -- Document 01's number and values for each case of each answer. The promises read answers through these. Assumes nothing.
 use Prim.Native.Nat.{ℕ}
-use mathlib.Core.Option.{Option, some, none}
 use Rattle.rules.specs.declared.Record.{Record}
 use Rattle.rules.specs.declared.Point.{Point}
 use Rattle.rules.specs.declared.PlotPoint.{PlotPoint}
 use Rattle.rules.specs.declared.Event.{Event}
-use Rattle.rules.specs.declared.Sums.{Sums}
 use Rattle.rules.specs.declared.Refusal.{Refusal}
 use Rattle.rules.specs.declared.Refusal.the-variants as refusal
 use Rattle.rules.specs.declared.Started.{Started}
@@ -22,10 +20,6 @@ use Rattle.rules.specs.declared.Reading.{Reading}
 use Rattle.rules.specs.declared.Reading.the-variants as reading
 use Rattle.rules.specs.declared.Written.{Written}
 use Rattle.rules.specs.declared.Written.the-variants as written
-use Rattle.rules.specs.declared.Found.{Found}
-use Rattle.rules.specs.declared.Found.the-variants as found
-use Rattle.rules.specs.declared.Reported.{Reported}
-use Rattle.rules.specs.declared.Reported.the-variants as reported
 use Rattle.rules.specs.Settings.{Tables}
 use Rattle.rules.specs.Reference.{Reply, skipped, first, again}
 
@@ -84,12 +78,3 @@ readingResult (reading.Refused r) = refused (number r)
 abbrev pub writtenResult : Written → Result ℕ
 writtenResult (written.Filled n) = gives n
 writtenResult (written.Refused r) = refused (number r)
-
-abbrev pub reportResult : Reported → Result Sums
-reportResult (reported.Sums s) = gives s
-reportResult reported.Torn = refused 3
-
--- the place that a search found
-abbrev pub placeFound : Found → Option ℕ
-placeFound (found.At d) = some d
-placeFound found.Nothing = none

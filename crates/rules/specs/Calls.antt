@@ -18,6 +18,7 @@ use Rattle.rules.specs.Order.{Outcome, outcome, Judged, _when_, says, by
 use Rattle.rules.specs.Events.{settingsOf, referencesOf}
 use Rattle.rules.specs.Layout.{Tracker, sampleOf, hashFor, profileOf, stored, freshTables, freshRecord}
 use Rattle.rules.specs.Conditions.{bucketsTooShort, tooShort, tornRecord, tornReport, tornFor, full, stale}
+use Rattle.rules.specs.History.{Reference}
 
 -- setup: 1, 2
 abbrev pub setupOrder : Settings → Tables → List Judged
@@ -88,7 +89,7 @@ goingOn (refused n) s rest = outcome (refused n) s
 goingOn (gives r) s rest = rest
 
 -- references one after the other, until one is refused
-unfoldable pub referAll : List ℕ → Tracker → Outcome (Unit {0}) Tracker
+unfoldable pub referAll : List Reference → Tracker → Outcome (Unit {0}) Tracker
 referAll [] s = outcome (gives tt) s
 referAll (x ∷ xs) s = goingOn (referOf x s .result) (referOf x s .left) (referAll xs (referOf x s .left))
 

@@ -13,6 +13,7 @@ use Rattle.rules.specs.Lists.{over}
 use Rattle.rules.specs.Settings.{Tables}
 use Rattle.rules.specs.Answers.{Result, refused, gives, Got}
 use Rattle.rules.specs.Order.{Outcome, Judged, _when_, says, byOrder}
+use Rattle.rules.specs.History.{Reference}
 
 -- a number as n bytes, little-endian
 abbrev pub bytesOf : (n x : ℕ) → List ℕ
@@ -59,7 +60,7 @@ abbrev pub blockBytes : ℕ
 blockBytes = 4096
 
 -- the references that an event stands for: kind 1 one, kind 2 one to offset / 4,096, or none if its length is 0
-abbrev pub referencesOf : Event → List ℕ
+abbrev pub referencesOf : Event → List Reference
 referencesOf (Location x) = x ∷ []
 referencesOf (Span offset bytes) = cond (eqb bytes 0) [] (offset / blockBytes ∷ [])
 referencesOf Restart = []

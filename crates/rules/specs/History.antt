@@ -6,6 +6,14 @@ use lib.Dec.{ltb}
 use lib.ListN.{length}
 use Rattle.rules.specs.Lists.{keep, upto, without}
 
+-- a reference, as a history has it: its location
+abbrev pub Reference : Type 0
+Reference = ℕ
+
+-- the locations of a history. What a reference carries beside its location is left out here, and nowhere else
+abbrev pub locations : List Reference → List ℕ
+locations past = past
+
 -- the recency list: the different locations, latest first
 abbrev pub recency : List ℕ → List ℕ
 recency [] = []

@@ -1,4 +1,5 @@
 pub mod Lists
+pub mod History
 pub mod Settings
 pub mod Reference
 pub mod Curve
@@ -9,5 +10,4 @@ pub mod Layout
 pub mod Lent
 pub mod Conditions
 pub mod Calls
-pub mod History
 pub mod Cache

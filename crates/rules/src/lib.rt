@@ -76,28 +76,43 @@ pub struct Shape {
 
 // The refusals, by name.
 pub enum Refusal {
+    // A setting is outside its range.
     Settings,
+    // A lent table, or a buffer for an event, is too short.
     Tables,
+    // The record or a bucket holds what no run leaves there.
     Torn,
+    // No more references can be counted.
     Full,
+    // The curve has another shape than the caller believes.
     Stale,
+    // There is no point of that number.
     Point,
+    // The bytes end before an event does.
     Short,
+    // No event has that kind.
     Kind,
+    // There is nothing to report.
     Empty,
 }
 
 // The answer to a setup or a restart.
 pub enum Started {
+    // The record of a fresh start.
     Ready(Record),
+    // No record was made, and the tables are as they were.
     Refused(Refusal),
 }
 
 // The answer to a reference.
 pub enum Answer {
+    // The location is not sampled.
     Skipped,
+    // It is in the live list, at this place counted from 0: its distance.
     Again(u64),
+    // It is sampled, and was not in the list.
     First,
+    // Nothing was counted or changed.
     Refused(Refusal),
 }
 
@@ -117,7 +132,9 @@ pub struct Point {
 
 // The answer to a point asked for.
 pub enum Pointed {
+    // The point.
     At(Point),
+    // There is none to give.
     Refused(Refusal),
 }
 
@@ -129,7 +146,9 @@ pub struct PlotPoint {
 
 // The answer to a point asked for as a pair of doubles.
 pub enum Plotted {
+    // The pair.
     At(PlotPoint),
+    // There is none to give.
     Refused(Refusal),
 }
 
@@ -144,27 +163,37 @@ pub struct SetupBody {
 
 // The trace events, kinds 1 to 4.
 pub enum Event {
+    // One reference to a location.
     Location(u64),
+    // Bytes that were read or written, from an offset on.
     Span { offset: u64, length: u32 },
+    // A fresh start with the same settings.
     Restart,
+    // A fresh start with these settings.
     Setup(SetupBody),
 }
 
-// The answer of reading: an event with the number of bytes it took, or a refusal.
+// The answer of reading.
 pub enum Reading {
+    // An event, with the number of bytes it took.
     Got(Event, usize),
+    // The bytes do not begin with a whole event.
     Refused(Refusal),
 }
 
-// The answer of writing: how many bytes were filled, or a refusal.
+// The answer of writing.
 pub enum Written {
+    // How many bytes were filled.
     Filled(usize),
+    // The buffer is as it was.
     Refused(Refusal),
 }
 
-// The answer to a trace event: all of it was taken, or one of its calls refused.
+// The answer to a trace event.
 pub enum Taken {
+    // All of it was taken.
     Whole,
+    // The call that it stands for was refused.
     Refused(Refusal),
 }
 
@@ -172,22 +201,4 @@ pub enum Taken {
 pub struct Applied {
     pub kept: Record,
     pub answer: Taken,
-}
-
-// The answer of the search: a place, counted from 0, or that there is none.
-pub enum Found {
-    At(usize),
-    Nothing,
-}
-
-// The report's sums: hits to a point, and the total.
-pub struct Sums {
-    pub hits: u64,
-    pub total: u64,
-}
-
-// The answer of the report: its sums, or that the buckets are torn.
-pub enum Reported {
-    Sums(Sums),
-    Torn,
 }

@@ -1,7 +1,7 @@
 use native.Mathlib.Omega.{arith}
 use mathlib.Core.Path.{sym, ap, _∙_}
 use borrow.Author.Tests.{lt-ltb}
-use Rattle.rules.specs.Answers.{reportResult}
+use Rattle.buckets.specs.Buckets.{reportResult}
 use Rattle.rules.proofs.Bounds.{whole}
 use Rattle.rules.proofs.Calls.{point-torn, point-short, point-stale, point-number}
 use Rattle.points.proofs.CurvePoints.{from-torn, from-sums, sums-ordered}

@@ -1,5 +1,5 @@
 use mathlib.Core.Path.{sym, ap, _∙_}
-use Rattle.rules.specs.Answers.{placeFound}
+use Rattle.live.specs.Live.{placeFound}
 use borrow.Author.Needs.{needs}
 use Rattle.refer.proofs.sampled.Statement.{statement}
 use Rattle.refer.proofs.sampled.Tie as tie
