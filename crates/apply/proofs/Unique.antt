@@ -10,7 +10,9 @@ use Rattle.rules.specs.Layout.{tracker, Tracker}
 use Rattle.rules.proofs.Tables.{each-same}
 use Rattle.rules.proofs.Answers.{taken-injective}
 
-pub apply-once : (ls cs ts ls' cs' ts' : List ℕ) (o : Outcome (Unit {0}) Tracker) (r r' : Applied) → outcome (takenResult (r .answer)) (tracker (r .kept) ls cs ts) ≡ o → outcome (takenResult (r' .answer)) (tracker (r' .kept) ls' cs' ts') ≡ o → (r ≡ r') × (ls ≡ ls') × (cs ≡ cs') × (ts ≡ ts')
+pub apply-once : (ls cs ts ls' cs' ts' : List ℕ) (o : Outcome (Unit {0}) Tracker) (r r' : Applied)
+    → outcome (takenResult (r .answer)) (tracker (r .kept) ls cs ts) ≡ o → outcome (takenResult (r' .answer)) (tracker (r' .kept) ls' cs' ts') ≡ o
+    → (r ≡ r') × (ls ≡ ls') × (cs ≡ cs') × (ts ≡ ts')
 apply-once ls cs ts ls' cs' ts' o r r' p q =
     let k = p ∙ sym q in
     let a = taken-injective (r .answer) (r' .answer) (ap (λ z. z .result) k) in

@@ -1,4 +1,5 @@
--- The laws of the histogram in its tables. Assumes nothing.
+-- The laws of the histogram in its tables. What is torn stays torn with more buckets, by induction on their number; the sums keep `SoFar`, to
+-- which each bucket that is not torn adds its own count; the report is made of the sums at two places. Assumes nothing.
 use Prim.Native.Nat.{ℕ, zero, suc, _+_, _*_, _≤_, _<_, min}
 use mathlib.Core.Path.{_≡_, refl, subst}
 use mathlib.Core.Logic.{⊎-elim}
@@ -56,7 +57,8 @@ module _ (references t : ℕ) (g : Histogram) where
   unfolding anyTorn rawTo sumTo
   so-far-none = record { whole = refl; raw-is = refl; sum-is = refl; raw-high = omega arith; sum-high = omega arith }
 
-  pub so-far-more : (raw sum i : ℕ) → SoFar references t i g raw sum → tornAt references t i g ≡ false → raw + countAt i g ≤ oneReference * references → SoFar references t (i + 1) g (raw + countAt i g) (sum + rescaled t (countAt i g) (thresholdAt i g))
+  pub so-far-more : (raw sum i : ℕ) → SoFar references t i g raw sum → tornAt references t i g ≡ false → raw + countAt i g ≤ oneReference * references
+      → SoFar references t (i + 1) g (raw + countAt i g) (sum + rescaled t (countAt i g) (thresholdAt i g))
   unfolding anyTorn rawTo sumTo
   so-far-more raw sum i s e h = record {
     whole = rw (add-one, s .whole, e);
@@ -73,25 +75,41 @@ module _ (references t : ℕ) (g : Histogram) where
     unfolding reportOf
     report-torn e = rw (le-ltb _ _ h, le-ltb _ _ k, e)
 
-    pub report-whole : {middle raw hits all total : ℕ} → middle ≡ min point n → SoFar references t middle g raw hits → SoFar references t n g all total → gives (record { hits = hits; total = total }) ≡ reportOf references t n point g
+    pub report-whole : {middle raw hits all total : ℕ} → middle ≡ min point n → SoFar references t middle g raw hits
+        → SoFar references t n g all total → gives (record { hits = hits; total = total }) ≡ reportOf references t n point g
     unfolding reportOf tornTo
-    report-whole e m s = rw (le-ltb _ _ h, le-ltb _ _ k, s .whole, le-ltb (oneReference * references) (rawTo n g) (omega (arith, s .raw-is, s .raw-high)), ← e, ← m .sum-is, ← s .sum-is)
+    report-whole e m s =
+        rw (
+          le-ltb _ _ h,
+          le-ltb _ _ k,
+          s .whole,
+          le-ltb (oneReference * references) (rawTo n g) (omega (arith, s .raw-is, s .raw-high)),
+          ← e,
+          ← m .sum-is,
+          ← s .sum-is,
+        )
 
 -- ---- what a caller needs besides
 
 -- the needed buckets, in tables that have them
 module _ (references t buckets : ℕ) (g : Histogram) (h : needed buckets ≤ length (g .counts)) (k : needed buckets ≤ length (g .thresholds)) where
   -- a bucket that is needed is recorded in unless it is torn
-  pub recorded-needed : (j : ℕ) → j < needed buckets → recordedOf references t j g ≡ cond (tornAt references t j g) (record { done = false; histogram = g }) (record { done = true; histogram = recordIn t j g })
+  pub recorded-needed : (j : ℕ) → j < needed buckets
+      → recordedOf references t j g
+      ≡ cond (tornAt references t j g) (record { done = false; histogram = g }) (record { done = true; histogram = recordIn t j g })
   unfolding recordedOf unrecordable
   recorded-needed j l = rw (lt-leb (length (g .counts)) j (omega arith), lt-leb (length (g .thresholds)) j (omega arith))
 
   -- the report of a point is torn as the rules say, or gives its hits and the total
-  pub report-needed : (point : ℕ) → point ≤ needed buckets → reportOf references t (needed buckets) point g ≡ cond (tornReport references t buckets g) (refused 3) (gives (record { hits = hitsAt t point g; total = totalOf t buckets g }))
+  pub report-needed : (point : ℕ) → point ≤ needed buckets
+      → reportOf references t (needed buckets) point g
+      ≡ cond (tornReport references t buckets g) (refused 3) (gives (record { hits = hitsAt t point g; total = totalOf t buckets g }))
   unfolding reportOf
   report-needed point l = rw (le-ltb _ _ h, le-ltb _ _ k, (let e : min point (needed buckets) ≡ point = omega arith in e))
 
 -- no table becomes longer or shorter
-pub recorded-lengths : (references t j : ℕ) (g : Histogram) → (length (recordedOf references t j g .histogram .counts) ≡ length (g .counts)) × (length (recordedOf references t j g .histogram .thresholds) ≡ length (g .thresholds))
+pub recorded-lengths : (references t j : ℕ) (g : Histogram)
+    → (length (recordedOf references t j g .histogram .counts) ≡ length (g .counts))
+    × (length (recordedOf references t j g .histogram .thresholds) ≡ length (g .thresholds))
 unfolding recordedOf
 recorded-lengths references t j g = cases (unrecordable references t j g) (λ e. rw e (refl, refl)) (λ e. rw e (simp length-set, simp length-set))

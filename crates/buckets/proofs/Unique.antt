@@ -21,10 +21,13 @@ unfolding answered
 reported-injective = undone reportResult answered (elim [ reported.Sums s ↦ refl | reported.Torn ↦ refl ])
 
 module _ (references t : ℕ) (g : Histogram) where
-  pub record-in-unique : (j : ℕ) (r s : Bool) (counts thresholds counts' thresholds' : List ℕ) → recorded r counts thresholds ≡ recordedOf references t j g → recorded s counts' thresholds' ≡ recordedOf references t j g → (r ≡ s) × (counts ≡ counts') × (thresholds ≡ thresholds')
+  pub record-in-unique : (j : ℕ) (r s : Bool) (counts thresholds counts' thresholds' : List ℕ)
+      → recorded r counts thresholds ≡ recordedOf references t j g → recorded s counts' thresholds' ≡ recordedOf references t j g
+      → (r ≡ s) × (counts ≡ counts') × (thresholds ≡ thresholds')
   record-in-unique j r s counts thresholds counts' thresholds' e f =
       let h = e ∙ sym f in
       (ap (λ k. k .done) h, ap (λ k. k .histogram .counts) h, ap (λ k. k .histogram .thresholds) h)
 
-  pub report-unique : (n point : ℕ) (r s : Reported) → reportResult r ≡ reportOf references t n point g → reportResult s ≡ reportOf references t n point g → r ≡ s
+  pub report-unique : (n point : ℕ) (r s : Reported) → reportResult r ≡ reportOf references t n point g
+      → reportResult s ≡ reportOf references t n point g → r ≡ s
   report-unique n point r s e f = reported-injective r s (e ∙ sym f)

@@ -1,4 +1,5 @@
--- The input in pieces, each read behind what was left of the one before: what was fed is the input so far. Assumes nothing.
+-- The input in pieces, each read behind what was left of the one before: what was fed is the input so far. By feed's `pieces`, a piece fed
+-- behind what was left is the whole fed at once; less than an event is ever left, by `untaken`. Assumes nothing.
 use Prim.Native.Nat.{ℕ, _+_, _-_, _≤_, _<_}
 use mathlib.Core.Path.{_≡_, refl, sym, ap, subst, _∙_}
 use mathlib.Core.Bool.{Bool, false, cond}
@@ -52,18 +53,22 @@ stands text before after n room q =
     }
 
 module _ (before after : List ℕ) (n : ℕ) where
-  pub refused-stands : (number place : ℕ) → 53 ≤ length before → placed n after ≡ refusedIn number place before → Stands (refusedLine number place) after n
+  pub refused-stands : (number place : ℕ) → 53 ≤ length before → placed n after ≡ refusedIn number place before
+      → Stands (refusedLine number place) after n
   refused-stands number place h = stands (refusedLine number place) before after n (le-ltb (length before) 53 h)
 
-  pub curve-stands : (kept : Record) (g : Histogram) → 65536 ≤ length before → length (g .counts) ≤ 1026 → placed n after ≡ curveIn kept g before → Stands (curveText kept g) after n
-  curve-stands kept g h few = stands (curveText kept g) before after n (or-neither (le-ltb (length before) 65536 h) (le-ltb 1026 (length (g .counts)) few))
+  pub curve-stands : (kept : Record) (g : Histogram) → 65536 ≤ length before → length (g .counts) ≤ 1026 → placed n after ≡ curveIn kept g before
+      → Stands (curveText kept g) after n
+  curve-stands kept g h few =
+      stands (curveText kept g) before after n (or-neither (le-ltb (length before) 65536 h) (le-ltb 1026 (length (g .counts)) few))
 
 -- ---- between reads
 
 pub follows-none : (s : Tracker) → Follows s 0 s []
 follows-none s = record { end = whole; reached = record { input = []; is = feed-none [] s refl; rest-is = refl } }
 
-pub reached-follows : {first s : Tracker} {place : ℕ} {why : Result End} {rest : List ℕ} → Reached first place why s rest → Ends why → Follows first place s rest
+pub reached-follows : {first s : Tracker} {place : ℕ} {why : Result End} {rest : List ℕ} → Reached first place why s rest → Ends why
+    → Follows first place s rest
 reached-follows r e = record { end = e .end; reached = rw (e .is) at r }
 
 pub reached-refused : {first s : Tracker} {place m : ℕ} {why : Result End} {rest : List ℕ} → Reached first place why s rest → why ≡ refused m
@@ -103,7 +108,8 @@ module _ (first : Tracker) (place : ℕ) (s : Tracker) (rest : List ℕ) (w : Fo
   }
 
   -- more of the input
-  pub follows-more : (more : List ℕ) (n : ℕ) (why : Result End) (left : Tracker) → record { taken = n; result = why; left = left } ≡ feedOf (rest ++ more) s
+  pub follows-more : (more : List ℕ) (n : ℕ) (why : Result End) (left : Tracker)
+      → record { taken = n; result = why; left = left } ≡ feedOf (rest ++ more) s
       → Reached first (place + n) why left (drop n (rest ++ more))
   follows-more more n why left q = record {
     input = w .reached .input ++ more;
@@ -113,7 +119,8 @@ module _ (first : Tracker) (place : ℕ) (s : Tracker) (rest : List ℕ) (w : Fo
   }
 
 -- the bytes fed: what was left, and what was read behind it
-pub behind : (left count : ℕ) (before now : List ℕ) → take left now ≡ take left before → take (left + count) now ≡ take left before ++ take count (drop left now)
+pub behind : (left count : ℕ) (before now : List ℕ) → take left now ≡ take left before
+    → take (left + count) now ≡ take left before ++ take count (drop left now)
 behind left count before now e = take-add left count now ∙ ap (λ l. l ++ take count (drop left now)) e
 
 -- no more was taken than was fed
@@ -125,8 +132,10 @@ taken-most bytes s e = rw e (taken-within bytes s)
 module _ (t after : Tables) where
   pub telling-started : (kept : Record) (r : Done) (buffer : List ℕ) → record { result = gives kept; left = after } ≡ setupOf firstSettings t
       → Telling (textFrom (record { kept = kept; tables = after })) r buffer → Telling (textOver t) r buffer
-  telling-started kept r buffer e h = subst (λ (z : Outcome Record Tables). Telling (λ (input : List ℕ). textAfter (z .result) (z .left) input) r buffer) e h
+  telling-started kept r buffer e h =
+      subst (λ (z : Outcome Record Tables). Telling (λ (input : List ℕ). textAfter (z .result) (z .left) input) r buffer) e h
 
   pub telling-refused : (n : ℕ) {buffer : List ℕ} {m : ℕ} → record { result = refused n; left = after } ≡ setupOf firstSettings t
       → Stands (refusedLine n 0) buffer m → Prints (textOver t) buffer m
-  telling-refused n e a = record { input = []; stands = record { is = a .is ∙ ap (λ (z : Outcome Record Tables). textAfter (z .result) (z .left) []) e; fits = a .fits } }
+  telling-refused n e a =
+      record { input = []; stands = record { is = a .is ∙ ap (λ (z : Outcome Record Tables). textAfter (z .result) (z .left) []) e; fits = a .fits } }

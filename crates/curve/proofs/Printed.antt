@@ -1,4 +1,4 @@
--- What is printed is of a run. Assumes nothing.
+-- What is printed is of a run. The first setup is accepted, by computation, and feeding goes on with the run that it begins. Assumes nothing.
 use Prim.Native.Nat.{ℕ}
 use mathlib.Core.Path.{_≡_, refl, ap, _∙_}
 use mathlib.Core.Bool.{false}
@@ -34,5 +34,6 @@ printed input =
       events = r .events;
       are = r .are;
       run = r .continued [] (setup firstSettings firstTables begins);
-      text = λ e. ap (λ b. textAfter (b .result) (b .left) input) begins ∙ ap (λ z. endText z (feedOf input start .taken) (feedOf input start .left)) e;
+      text = λ e. ap (λ b. textAfter (b .result) (b .left) input) begins
+          ∙ ap (λ z. endText z (feedOf input start .taken) (feedOf input start .left)) e;
     }

@@ -1,4 +1,6 @@
--- Demand 3: the live list is as if nothing else had been tracked. Assumes nothing.
+-- Demand 3: the live list is as if nothing else had been tracked. The references that hash below the threshold are replayed by themselves, on
+-- the same settings (`replayed`, by induction on them). Their run's threshold is not below this one's (`not-lower`), so both live lists are the
+-- same part of the recency list. Assumes nothing.
 use Prim.Native.Nat.{ℕ, _≤_}
 use mathlib.Core.Path.{_≡_, refl, sym, ap, subst, _∙_}
 use mathlib.Core.Bool.{false}
@@ -31,7 +33,8 @@ pub record Replayed (s : Settings) (past : List ℕ) : Type 0 where
   pub run : Run past left
   pub same : left .kept .settings ≡ s
 
-pub replayed : (s : Settings) (t : Tables) → outOfRange s ≡ false → tooShort s t ≡ false → (past : List ℕ) → length past ≤ mostReferences → Replayed s past
+pub replayed : (s : Settings) (t : Tables) → outOfRange s ≡ false → tooShort s t ≡ false → (past : List ℕ) → length past ≤ mostReferences
+    → Replayed s past
 replayed s t r l [] n = record {
   left = fresh s t;
   run = restart (freshRecord s) t (restart-accept (freshRecord s) t (invariant-fresh s t r l .record-whole) l);
@@ -50,10 +53,12 @@ replayed s t r l (x ∷ past) n = more (replayed s t r l past (omega arith))
         }
 
 -- of two largest thresholds, where the references of one are those of the other that hash below the other's, the first is not below the second
-not-lower : (hash : ℕ → ℕ) (limit start : ℕ) (past : List ℕ) (t u : ℕ) → Largest hash limit start past t → Largest hash limit start (keep (under hash t) past) u → t ≤ u
+not-lower : (hash : ℕ → ℕ) (limit start : ℕ) (past : List ℕ) (t u : ℕ) → Largest hash limit start past t
+    → Largest hash limit start (keep (under hash t) past) u → t ≤ u
 not-lower hash limit start past t u a b = cases (ltb u t)
     (λ e. let q : different (under hash t) (keep (under hash t) past) ≡ different (under hash t) past =
-    ap length (ap (keep (under hash t)) (sym (keep-recency (under hash t) past)) ∙ keep-narrow (under hash t) (under hash t) (λ y h. h) (recency past)) in
+    ap length
+    (ap (keep (under hash t)) (sym (keep-recency (under hash t) past)) ∙ keep-narrow (under hash t) (under hash t) (λ y h. h) (recency past)) in
     absurd (omega (arith, b .none-above t (ltb-true u t e) (a .atMost), a .holds)))
     (λ e. ltb-false u t e)
 
@@ -65,7 +70,8 @@ nothing-else past s run =
     (omega (arith, keep-length (inForce s) past, v .references-is, whole (s .kept) (v .record-whole) .references-high)) in
     let a = threshold past s run in
     let b : Largest (hashFor set) (set .limit) (set .start) (keep (inForce s) past) (p .left .kept .threshold) =
-    subst (λ z. Largest (hashFor z) (z .limit) (z .start) (keep (inForce s) past) (p .left .kept .threshold)) (p .same) (threshold _ (p .left) (p .run)) in
+    subst (λ z. Largest (hashFor z) (z .limit) (z .start) (keep (inForce s) past) (p .left .kept .threshold)) (p .same)
+    (threshold _ (p .left) (p .run)) in
     let h : s .kept .threshold ≤ p .left .kept .threshold = not-lower (hashFor set) (set .limit) (set .start) past _ _ a b in
     record {
       other = p .left;
@@ -75,6 +81,7 @@ nothing-else past s run =
           ∙ ap (λ z. keep (under (hashFor z) (p .left .kept .threshold)) (recency (keep (inForce s) past))) (p .same)
           ∙ ap (keep (under (hashFor set) (p .left .kept .threshold))) (sym (keep-recency (inForce s) past))
           ∙ keep-keep (under (hashFor set) (p .left .kept .threshold)) (inForce s) (recency past)
-          ∙ keep-narrow (inForce s) (under (hashFor set) (p .left .kept .threshold)) (λ y e. lt-ltb (hashFor set y) (p .left .kept .threshold) (omega (arith, ltb-true (hashFor set y) (s .kept .threshold) e))) (recency past)
+          ∙ keep-narrow (inForce s) (under (hashFor set) (p .left .kept .threshold))
+          (λ y e. lt-ltb (hashFor set y) (p .left .kept .threshold) (omega (arith, ltb-true (hashFor set y) (s .kept .threshold) e))) (recency past)
           ∙ sym (live-list past s run);
     }

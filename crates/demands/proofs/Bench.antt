@@ -1,4 +1,5 @@
--- The bench table. Assumes nothing.
+-- The bench table. A row of given calls computes, so `refl` proves it. Row d speaks of every later reference: a run whose threshold is 0 goes on
+-- as one (`zero-later`), and there nothing is sampled and every sum is 0. Row h, of any tables long enough, is setup's cases. Assumes nothing.
 use Prim.Native.Nat.{ℕ, zero, suc, _+_, _/_, _≤_}
 use mathlib.Core.Path.{_≡_, refl, sym, ap, subst, _∙_}
 use mathlib.Core.Bool.{false}
@@ -32,11 +33,14 @@ sum-zero (suc n) g =
     let q : rescaled 0 (countAt n g) (thresholdAt n g) ≡ 0 = ap (λ z. z / thresholdAt n g) (mul-zero (countAt n g)) ∙ zero-div (thresholdAt n g) in
     omega (arith, sum-zero n g)
 
-pub zero-empty : (past : List ℕ) (s : Tracker) → Run past s → s .kept .threshold ≡ 0 → (k : ℕ) → k ≤ s .kept .settings .buckets → pointAt s k ≡ refused 9
+pub zero-empty : (past : List ℕ) (s : Tracker) → Run past s → s .kept .threshold ≡ 0 → (k : ℕ) → k ≤ s .kept .settings .buckets
+    → pointAt s k ≡ refused 9
 zero-empty past s run z k h =
-    only-point-or-empty past s k run ∙ rw (le-ltb _ _ h, eq-eqb _ 0 (ap (λ t. sumTo t (s .kept .settings .buckets + 2) (s .tables .histogram)) z ∙ sum-zero _ (s .tables .histogram)))
+    only-point-or-empty past s k run
+    ∙ rw (le-ltb _ _ h, eq-eqb _ 0 (ap (λ t. sumTo t (s .kept .settings .buckets + 2) (s .tables .histogram)) z ∙ sum-zero _ (s .tables .histogram)))
 
-pub zero-skips : (past : List ℕ) (s : Tracker) → Run past s → s .kept .threshold ≡ 0 → (x : ℕ) (r : Reply) → referOf x s .result ≡ gives r → r ≡ skipped
+pub zero-skips : (past : List ℕ) (s : Tracker) → Run past s → s .kept .threshold ≡ 0 → (x : ℕ) (r : Reply) → referOf x s .result ≡ gives r
+    → r ≡ skipped
 zero-skips past s run z x r e =
     whole-answers past s (referOf x s .left) x r run (λ i. record { result = e i; left = referOf x s .left })
     ∙ rw (le-ltb (hashFor (s .kept .settings) x) (s .kept .threshold) (omega arith))
@@ -56,10 +60,18 @@ zero-later s (x ∷ later) h z = refer-either x h
     let next : Zero s (referOf x h .left) = record {
       past = x ∷ z .past;
       run = refer (z .run) (λ i. record { result = ap (λ o. o .result) e i; left = referOf x h .left });
-      is-zero = ap (λ o. o .left .kept .threshold) e ∙ (let q : stepOf x h .left .threshold ≡ 0 = omega (arith, step-falls (hashFor (h .kept .settings)) (h .kept .settings .limit) (profileOf (h .kept .settings)) x (sampleOf h), z .is-zero) in q);
+      is-zero =
+          ap (λ o. o .left .kept .threshold) e
+          ∙ (let q : stepOf x h .left .threshold ≡ 0 =
+          omega (
+            arith,
+            step-falls (hashFor (h .kept .settings)) (h .kept .settings .limit) (profileOf (h .kept .settings)) x (sampleOf h),
+            z .is-zero,
+          ) in q);
       same = ap (λ o. o .left .kept .settings) e ∙ z .same;
     } in
-    subst (Zero s) (sym (ap (λ o. goingOn (o .result) (referOf x h .left) (referAll later (referOf x h .left)) .left) e)) (zero-later s later (referOf x h .left) next))
+    subst (Zero s) (sym (ap (λ o. goingOn (o .result) (referOf x h .left) (referAll later (referOf x h .left)) .left) e))
+    (zero-later s later (referOf x h .left) next))
     (λ n e. subst (Zero s) (sym (ap (λ o. goingOn (o .result) (o .left) (referAll later (o .left)) .left) e)) z)
 
 -- ---- the table
@@ -73,14 +85,20 @@ skips later x r e = let z = zero-later _ later caseD case-d in zero-skips (z .pa
 
 empty : (later : List ℕ) (k : ℕ) → k ≤ 256 → pointAt (referAll later caseD .left) k ≡ refused 9
 unfolding withDefaults
-empty later k h = let z = zero-later _ later caseD case-d in zero-empty (z .past) _ (z .run) (z .is-zero) k (omega (arith, ap (λ s. s .buckets) (z .same)))
+empty later k h = let z = zero-later _ later caseD case-d in
+    zero-empty (z .past) _ (z .run) (z .is-zero) k (omega (arith, ap (λ s. s .buckets) (z .same)))
 
 limits : (t : Tables) → tooShort (withDefaults (kind0 8192 0 0 0)) t ≡ false
-    → (setupOf (kind0 8192 0 0 0) t .result ≡ gives (freshRecord (withDefaults (kind0 8192 0 0 0)))) × (setupOf (kind0 8193 0 0 0) t .result ≡ refused 1)
-limits t l = (ap (λ b. b .result) (setup-accept (kind0 8192 0 0 0) t (unfold outOfRange withDefaults in refl) l), ap (λ b. b .result) (setup-range (kind0 8193 0 0 0) t (unfold outOfRange withDefaults in refl)))
+    → (setupOf (kind0 8192 0 0 0) t .result ≡ gives (freshRecord (withDefaults (kind0 8192 0 0 0))))
+    × (setupOf (kind0 8193 0 0 0) t .result ≡ refused 1)
+limits t l = (
+  ap (λ b. b .result) (setup-accept (kind0 8192 0 0 0) t (unfold outOfRange withDefaults in refl) l),
+  ap (λ b. b .result) (setup-range (kind0 8193 0 0 0) t (unfold outOfRange withDefaults in refl)),
+)
 
 pub bench : BenchTable
-unfolding setupOf referOf referAll tornRecord outOfRange withDefaults hashOf firstFrom largest withinLimit sampledStep step tornBucket pointOf tornTo anyTorn rawTo sumTo readOf
+unfolding setupOf referOf referAll tornRecord outOfRange withDefaults hashOf firstFrom largest withinLimit sampledStep step
+    tornBucket pointOf tornTo anyTorn rawTo sumTo readOf
 bench = record {
   a = ((refl, refl), refl, refl, refl, refl, refl);
   b = ((refl, refl), refl, refl, refl, refl, refl, refl, refl, refl, refl, refl);

@@ -1,4 +1,5 @@
--- What every run leaves. Assumes nothing.
+-- What every run leaves. By induction on the run (`by-run`): a fresh start has the invariant, and an accepted reference keeps it, by the laws of
+-- one reference in `Steps`, `Clean` and `Calls`. Assumes nothing.
 use Prim.Native.Nat.{ℕ, suc, _+_, _<_}
 use mathlib.Core.Path.{_≡_, refl, sym, ap, subst, subst₂, _∙_}
 use mathlib.Core.Bool.{false}
@@ -28,7 +29,8 @@ pub record Invariant (past : List ℕ) (s : Tracker) : Type 0 where
   pub record-whole : tornRecord (s .kept) ≡ false
   pub tables-long : tooShort (s .kept .settings) (s .tables) ≡ false
   pub tracked : Tracked (hashFor (s .kept .settings)) (s .kept .settings .limit) (s .kept .settings .start) past (sampleOf s)
-  pub clean : Clean (needed (s .kept .settings .buckets)) (s .kept .settings .start) (s .kept .numbers .references) (s .kept .threshold) (s .tables .histogram)
+  pub clean : Clean (needed (s .kept .settings .buckets)) (s .kept .settings .start) (s .kept .numbers .references) (s .kept .threshold)
+      (s .tables .histogram)
   pub live-is : s .kept .live ≡ length (liveOf s)
   pub references-is : s .kept .numbers .references ≡ length past
 
@@ -48,7 +50,8 @@ invariant-fresh s t e l =
 pub gives-same : {A : Type 0} {a b : A} → gives a ≡ gives b → a ≡ b
 gives-same e = cc
 
-started-state : {b : Outcome Record Tables} {kept : Record} {s : Tracker} {u : Tables} → b ≡ record { result = gives kept; left = u } → b ≡ record { result = gives (s .kept); left = s .tables } → record { kept = kept; tables = u } ≡ s
+started-state : {b : Outcome Record Tables} {kept : Record} {s : Tracker} {u : Tables} → b ≡ record { result = gives kept; left = u }
+    → b ≡ record { result = gives (s .kept); left = s .tables } → record { kept = kept; tables = u } ≡ s
 started-state {kept = kept} {s = s} e f =
     λ i. record { kept = gives-same (ap (λ b. b .result) (sym e ∙ f)) i; tables = ap (λ b. b .left) (sym e ∙ f) i }
 
@@ -60,7 +63,8 @@ pub record Fresh (h : Tracker) : Type 0 where
   pub long : tooShort given over ≡ false
   pub is : fresh given over ≡ h
 
-pub fresh-started : (s : Settings) (t : Tables) (b : Outcome Record Tables) (h : Tracker) → Begins s t b → b ≡ record { result = gives (h .kept); left = h .tables } → Fresh h
+pub fresh-started : (s : Settings) (t : Tables) (b : Outcome Record Tables) (h : Tracker) → Begins s t b
+    → b ≡ record { result = gives (h .kept); left = h .tables } → Fresh h
 fresh-started s t b h g e = record { given = s; over = t; range = g .range; long = g .long; is = started-state (g .is) e }
 
 module _ (past : List ℕ) (s : Tracker) (v : Invariant past s) (x : ℕ) where
@@ -97,23 +101,29 @@ module _ (past : List ℕ) (s : Tracker) (v : Invariant past s) (x : ℕ) where
   invariant-stored a = record {
     record-whole = left-whole x s a;
     tables-long = left-long x s a;
-    tracked = rw (sample-stored (stepOf x s) s) (tracked-step (hashFor set) (set .limit) (set .start) x past (sampleOf s) (v .tracked) (profileOf set));
-    clean = rw (counted-one (stepOf x s .reply)) (clean-step (hashFor set) (set .limit) (profileOf set) (profile-cut set (bounds .range) .far) x (sampleOf s) (set .start) (s .kept .numbers .references) (bounds .threshold-high) (v .clean));
+    tracked =
+        rw (sample-stored (stepOf x s) s) (tracked-step (hashFor set) (set .limit) (set .start) x past (sampleOf s) (v .tracked) (profileOf set));
+    clean = rw (counted-one (stepOf x s .reply))
+        (clean-step (hashFor set) (set .limit) (profileOf set) (profile-cut set (bounds .range) .far) x (sampleOf s) (set .start)
+        (s .kept .numbers .references) (bounds .threshold-high) (v .clean));
     live-is = ap length (sym (over-front (stepOf x s .left .live) (s .tables .locations)));
-    references-is = counted-one (stepOf x s .reply) ∙ (let q : s .kept .numbers .references + 1 ≡ suc (length past) = omega (arith, v .references-is) in q);
+    references-is =
+        counted-one (stepOf x s .reply) ∙ (let q : s .kept .numbers .references + 1 ≡ suc (length past) = omega (arith, v .references-is) in q);
   }
 
 -- by cases on a run, of what holds of a fresh start and is kept by each accepted reference
 pub by-run : (Q : (past : List ℕ) → Tracker → List Reply → Type 0)
     → ((h : Tracker) → Fresh h → Q [] h [])
-    → ((past : List ℕ) (s : Tracker) (x : ℕ) (rs : List Reply) → Run past s → Accepted x s → Q past s rs → Q (x ∷ past) (stored (stepOf x s) s) (stepOf x s .reply ∷ rs))
+    → ((past : List ℕ) (s : Tracker) (x : ℕ) (rs : List Reply) → Run past s → Accepted x s → Q past s rs
+    → Q (x ∷ past) (stored (stepOf x s) s) (stepOf x s .reply ∷ rs))
     → {past : List ℕ} {s : Tracker} (run : Run past s) → Q past s (answers run)
 by-run Q start next (setup given t {s = s} e) = start s (fresh-started _ t _ s (setup-begins given t (s .kept) (ap (λ b. b .result) e)) e)
-by-run Q start next (restart k t {s = s} e) = start s (fresh-started _ t _ s (restart-begins k t (s .kept) (ap (λ b. b .result) e)) e)
+by-run Q start next (restart kept t {s = s} e) = start s (fresh-started _ t _ s (restart-begins kept t (s .kept) (ap (λ b. b .result) e)) e)
 by-run Q start next (refer {past = past} {s = s} {after = after} {x = x} {r = r} run e) =
     let a = refer-accepted x s r (ap (λ o. o .result) e) in
     let q = sym (refer-accept x s a) ∙ e in
-    subst₂ (λ h z. Q (x ∷ past) h (z ∷ answers run)) (ap (λ o. o .left) q) (gives-same (ap (λ o. o .result) q)) (next past s x (answers run) run a (by-run Q start next run))
+    subst₂ (λ h z. Q (x ∷ past) h (z ∷ answers run)) (ap (λ o. o .left) q) (gives-same (ap (λ o. o .result) q))
+    (next past s x (answers run) run a (by-run Q start next run))
 
 pub invariant : {past : List ℕ} {s : Tracker} → Run past s → Invariant past s
 invariant run = by-run (λ past s rs. Invariant past s)

@@ -1,4 +1,6 @@
--- Points of a run: what is refused, and demand 2 at full rate. Assumes nothing.
+-- Points of a run: what is refused, and demand 2 at full rate. The buckets of a run are clean, so none is torn at a report, and the refusals
+-- that are left are a point off the curve and an empty curve. That the histogram is the caches' goes by induction on the run, each reference by
+-- `FullRate`'s `exact-step`. Assumes nothing.
 use Prim.Native.Nat.{ℕ, zero, suc, _-_, _*_, _≤_}
 use mathlib.Core.Path.{_≡_, refl, ap, subst, _∙_}
 use mathlib.Core.Bool.{false, not}
@@ -29,7 +31,8 @@ use Rattle.demands.specs.Statements.{sizeAt, FullRate, OnlyPointOrEmpty}
 use Rattle.demands.proofs.Invariant.{invariant, by-run}
 
 -- clean buckets are not torn at a report
-none-torn : (n start references t : ℕ) (g : Histogram) → start ≤ fullRate → Clean n start references t g → (m : ℕ) → m ≤ n → anyTorn references t m g ≡ false
+none-torn : (n start references t : ℕ) (g : Histogram) → start ≤ fullRate → Clean n start references t g → (m : ℕ) → m ≤ n
+    → anyTorn references t m g ≡ false
 unfolding anyTorn
 none-torn n start references t g p c zero h = refl
 none-torn n start references t g p c (suc m) h = or-neither (none-torn n start references t g p c m (omega arith)) (not-torn _ _ _ _ (record {
@@ -48,7 +51,8 @@ only-point-or-empty past s k run =
     let v = invariant run in
     let set = s .kept .settings in
     let t : anyTorn (s .kept .numbers .references) (s .kept .threshold) (needed (set .buckets)) (s .tables .histogram) ≡ false =
-    none-torn (needed (set .buckets)) (set .start) _ _ (s .tables .histogram) (whole (s .kept) (v .record-whole) .range .start-high) (v .clean) (needed (set .buckets)) (omega arith) in
+    none-torn (needed (set .buckets)) (set .start) _ _ (s .tables .histogram) (whole (s .kept) (v .record-whole) .range .start-high) (v .clean)
+    (needed (set .buckets)) (omega arith) in
     let n : bucketsTooShort set (s .tables .histogram) ≡ false = buckets-none-short set (s .tables) (v .tables-long) in
     rw (v .record-whole, n, same-number (set .buckets), same-number (set .width), t, le-ltb _ _ (v .clean .raw-high))
 
@@ -70,9 +74,11 @@ exact run = by-run (λ past s rs. ExactIn past s)
     (λ past s x rs run a e p n.
     let v = invariant run in
     let set = s .kept .settings in
-    let k : Tracked (hashFor set) (set .limit) fullRate past (sampleOf s) = subst (λ z. Tracked (hashFor set) (set .limit) z past (sampleOf s)) p (v .tracked) in
+    let tracked : Tracked (hashFor set) (set .limit) fullRate past (sampleOf s) =
+    subst (λ z. Tracked (hashFor set) (set .limit) z past (sampleOf s)) p (v .tracked) in
     let m : length (recency past) ≤ set .limit = omega (arith, recency-grows x past) in
-    exact-step (hashFor set) (hash-below (set .hashing)) (set .limit) (profileOf set) (profile-cut set (whole (s .kept) (v .record-whole) .range)) x past (sampleOf s) k m (length past) (e p m)) run
+    exact-step (hashFor set) (hash-below (set .hashing)) (set .limit) (profileOf set)
+    (profile-cut set (whole (s .kept) (v .record-whole) .range)) x past (sampleOf s) tracked m (length past) (e p m)) run
 
 pub full-rate : FullRate
 unfolding ExactIn
@@ -82,7 +88,8 @@ full-rate past s run p n k l =
     let g = s .tables .histogram in
     let e = exact run p n in
     let still : s .kept .threshold ≡ fullRate =
-    threshold-stays (hashFor set) (hash-below (set .hashing)) (set .limit) past (s .kept .threshold) (subst (λ z. Largest (hashFor set) (set .limit) z past (s .kept .threshold)) p (v .tracked .threshold-is)) n in
+    threshold-stays (hashFor set) (hash-below (set .hashing)) (set .limit) past (s .kept .threshold)
+    (subst (λ z. Largest (hashFor set) (set .limit) z past (s .kept .threshold)) p (v .tracked .threshold-is)) n in
     let total : totalOf (s .kept .threshold) (set .buckets) g ≡ oneReference * length past =
     ap (λ t. sumTo t (needed (set .buckets)) g) still ∙ exact-report (profileOf set) _ _ g e (needed (set .buckets)) (omega arith) ∙ e .total in
     let below : sumTo (s .kept .threshold) k g ≡ oneReference * hits (sizeAt s k) past =

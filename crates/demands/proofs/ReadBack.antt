@@ -14,6 +14,7 @@ read-back e f rest = round e rest f
 
 pub written-read-back : WrittenReadBack
 written-read-back e f buffer n said =
-    let w : outcome (writtenResult (written.Filled n)) (writeOf e buffer .left) ≡ writeOf e buffer = λ i. record { result = sym said i; left = writeOf e buffer .left } in
+    let w : outcome (writtenResult (written.Filled n)) (writeOf e buffer .left) ≡ writeOf e buffer =
+    λ i. record { result = sym said i; left = writeOf e buffer .left } in
     let k = write-filled e buffer n (writeOf e buffer .left) w in
     rw (k .1, k .0) (round e (drop (eventLength e) buffer) f)

@@ -1,4 +1,5 @@
--- The recency list holds exactly the referenced locations, each once, ordered by last reference. Assumes nothing.
+-- The recency list holds exactly the referenced locations, each once, ordered by last reference. By induction on the history: the newest was
+-- referenced last of all, and every other's last reference is one further back. Assumes nothing.
 use Prim.Native.Nat.{ℕ, suc}
 use mathlib.Core.Path.{_≡_, refl, sym, subst, _∙_}
 use mathlib.Core.Bool.{true, false, not}
@@ -36,8 +37,10 @@ by-last x past (z ∷ l) o = cases (eqb x z)
 
 ordered : (past : List ℕ) → ByLastReference past (recency past)
 ordered [] = tt
-ordered (x ∷ past) =
-    ((λ y h. let k = other-than x y (recency past) h in rw (eq-eqb x x refl) (omega (arith, later x y past (k .0)))), by-last x past (recency past) (ordered past))
+ordered (x ∷ past) = (
+  (λ y h. let k = other-than x y (recency past) h in rw (eq-eqb x x refl) (omega (arith, later x y past (k .0)))),
+  by-last x past (recency past) (ordered past),
+)
 
 pub recency-is : (past : List ℕ) → Recency past
 recency-is past = record { exactly = λ x. has-recency x past; ordered = ordered past }

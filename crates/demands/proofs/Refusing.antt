@@ -1,4 +1,6 @@
--- Demand 1. Assumes nothing.
+-- Demand 1. An event has the order of the call that it stands for, so (a) and (b) are `Order`'s laws, and (c) is a case of the point's call. The
+-- one exception: of trackers that agree, each call's order, its step and what it leaves are made of the same parts, so they agree again.
+-- Assumes nothing.
 use Prim.Native.Nat.{ℕ, _+_, _-_, _/_}
 use mathlib.Core.Path.{_≡_, refl, sym, ap, subst₂, _∙_}
 use mathlib.Core.Bool.{true, false, cond, not, _||_}
@@ -29,17 +31,18 @@ use Rattle.demands.specs.Refusing.{Untouched, InOrder, NeverZero, StaleB
 
 abbrev applyOrder : Event → Tracker → List Judged
 applyOrder (Location x) s = referOrder x s
-applyOrder (Span offset length) s = cond (eqb length 0) [] (referOrder (offset / blockBytes) s)
+applyOrder (Span offset bytes) s = cond (eqb bytes 0) [] (referOrder (offset / blockBytes) s)
 applyOrder Restart s = restartOrder (s .kept) (s .tables)
 applyOrder (Setup b) s = setupOrder (settingsOf b) (s .tables)
 
 abbrev applyAfter : Event → Tracker → Tracker
 applyAfter (Location x) s = stored (stepOf x s) s
-applyAfter (Span offset length) s = cond (eqb length 0) s (stored (stepOf (offset / blockBytes) s) s)
+applyAfter (Span offset bytes) s = cond (eqb bytes 0) s (stored (stepOf (offset / blockBytes) s) s)
 applyAfter Restart s = fresh (s .kept .settings) (s .tables)
 applyAfter (Setup b) s = fresh (withDefaults (settingsOf b)) (s .tables)
 
-one-is : (order : List Judged) (r : Reply) (l : Tracker) → goingOn (says order r) l (record { result = gives tt; left = l }) ≡ record { result = says order tt; left = l }
+one-is : (order : List Judged) (r : Reply) (l : Tracker)
+    → goingOn (says order r) l (record { result = gives tt; left = l }) ≡ record { result = says order tt; left = l }
 one-is [] r l = refl
 one-is (j ∷ order) r l = cases (j .holds) (λ h. rw h) (λ h. rw h (one-is order r l))
 
@@ -51,17 +54,21 @@ started-is (j ∷ order) kept r t u = cases (j .holds) (λ h. rw h) (λ h. rw h 
 apply-is : (e : Event) (s : Tracker) → applyOf e s ≡ record { result = says (applyOrder e s) tt; left = leaves (applyOrder e s) s (applyAfter e s) }
 unfolding applyOf referAll referOf restartOf setupOf
 apply-is (Location x) s = one-is (referOrder x s) (stepOf x s .reply) (leaves (referOrder x s) s (stored (stepOf x s) s))
-apply-is (Span offset length) s = cases (eqb length 0) (λ z. rw z)
+apply-is (Span offset bytes) s = cases (eqb bytes 0) (λ z. rw z)
     (λ z. rw z (let x = offset / blockBytes in one-is (referOrder x s) (stepOf x s .reply) (leaves (referOrder x s) s (stored (stepOf x s) s))))
-apply-is Restart s = let set = s .kept .settings in started-is (restartOrder (s .kept) (s .tables)) (s .kept) (freshRecord set) (s .tables) (freshTables set (s .tables))
-apply-is (Setup b) s = let set = withDefaults (settingsOf b) in started-is (setupOrder (settingsOf b) (s .tables)) (s .kept) (freshRecord set) (s .tables) (freshTables set (s .tables))
+apply-is Restart s = let set = s .kept .settings in
+    started-is (restartOrder (s .kept) (s .tables)) (s .kept) (freshRecord set) (s .tables) (freshTables set (s .tables))
+apply-is (Setup b) s = let set = withDefaults (settingsOf b) in
+    started-is (setupOrder (settingsOf b) (s .tables)) (s .kept) (freshRecord set) (s .tables) (freshTables set (s .tables))
 
 -- ---- (a)
 
 pub untouched : Untouched
 untouched = record {
   by-order = leaves-was;
-  by-apply = λ e s n r. ap (λ o. o .left) (apply-is e s) ∙ leaves-was (applyOrder e s) tt s (applyAfter e s) n (sym (ap (λ o. o .result) (apply-is e s)) ∙ r);
+  by-apply =
+      λ e s n r. ap (λ o. o .left) (apply-is e s)
+      ∙ leaves-was (applyOrder e s) tt s (applyAfter e s) n (sym (ap (λ o. o .result) (apply-is e s)) ∙ r);
 }
 
 -- ---- (b)
@@ -81,14 +88,14 @@ never-zero A order a = says-some order a
 -- ---- (c)
 
 pub stale-by-name : StaleByName
-stale-by-name k believed n g e f d = point-stale k believed n g e f differs
+stale-by-name kept believed n g e f d = point-stale kept believed n g e f differs
   where
-    differs : stale believed (k .settings) ≡ true
-    differs = cases (eqb (believed .buckets) (k .settings .buckets))
-        (λ b. cases (eqb (believed .width) (k .settings .width))
+    differs : stale believed (kept .settings) ≡ true
+    differs = cases (eqb (believed .buckets) (kept .settings .buckets))
+        (λ b. cases (eqb (believed .width) (kept .settings .width))
         (λ w. absurd (d (eqb-true _ _ b) (eqb-true _ _ w)))
-        (λ w. or-right (not (eqb (believed .buckets) (k .settings .buckets))) _ (ap not w)))
-        (λ b. or-left (not (eqb (believed .buckets) (k .settings .buckets))) _ (ap not b))
+        (λ w. or-right (not (eqb (believed .buckets) (kept .settings .buckets))) _ (ap not w)))
+        (λ b. or-left (not (eqb (believed .buckets) (kept .settings .buckets))) _ (ap not b))
 
 -- ---- the one exception
 
@@ -97,26 +104,39 @@ over-lengths l a b e = simp (length-append, length-drop) (ap (λ n. length l + (
 
 module _ (s t : Tracker) (a : Agree s t) where
   same-settings : s .kept .settings ≡ t .kept .settings
-  same-settings = ap (λ k. k .settings) (a .same-record)
+  same-settings = ap (λ kept. kept .settings) (a .same-record)
 
   short : (set set' : Settings) → set ≡ set' → tooShort set (s .tables) ≡ tooShort set' (t .tables)
   short set set' e = λ i. ltb (a .same-length i) (e i .limit) || bucketsTooShort (e i) (a .same-buckets i)
 
   -- one step depends on nothing else
   same-step : (x : ℕ) → stepOf x s ≡ stepOf x t
-  same-step x = λ i. let k = a .same-record i in
-      step (hashFor (k .settings)) (k .settings .limit) (profileOf (k .settings)) x (record { threshold = k .threshold; live = a .same-list i; histogram = a .same-buckets i })
+  same-step x = λ i. let kept = a .same-record i in
+      step (hashFor (kept .settings)) (kept .settings .limit) (profileOf (kept .settings)) x
+      (record { threshold = kept .threshold; live = a .same-list i; histogram = a .same-buckets i })
 
   same-torn : (x : ℕ) → tornFor x s ≡ tornFor x t
-  same-torn x = λ i. let k = a .same-record i in
-      cond (under (hashFor (k .settings)) (k .threshold) x) (tornAt (k .numbers .references) (k .threshold) (bucketFor (profileOf (k .settings)) (k .threshold) (firstPlace x (a .same-list i))) (a .same-buckets i)) false
+  same-torn x = λ i. let kept = a .same-record i in
+      cond (under (hashFor (kept .settings)) (kept .threshold) x)
+      (tornAt (kept .numbers .references) (kept .threshold) (bucketFor (profileOf (kept .settings)) (kept .threshold) (firstPlace x (a .same-list i)))
+      (a .same-buckets i)) false
 
   stored-agree : (x : ℕ) → Agree (stored (stepOf x s) s) (stored (stepOf x t) t)
   stored-agree x = record {
-    same-record = λ i. record { settings = a .same-record i .settings; threshold = same-step x i .left .threshold; live = length (same-step x i .left .live); numbers = counted (same-step x i .reply) (a .same-record i .numbers) };
+    same-record =
+        λ i. record {
+          settings = a .same-record i .settings;
+          threshold = same-step x i .left .threshold;
+          live = length (same-step x i .left .live);
+          numbers = counted (same-step x i .reply) (a .same-record i .numbers);
+        };
     same-buckets = ap (λ r. r .left .histogram) (same-step x);
-    same-list = ap (λ z. z .live) (sample-stored (stepOf x s) s) ∙ ap (λ r. r .left .live) (same-step x) ∙ sym (ap (λ z. z .live) (sample-stored (stepOf x t) t));
-    same-length = ap (λ r. length (over (r .left .live) (s .tables .locations))) (same-step x) ∙ over-lengths (stepOf x t .left .live) (s .tables .locations) (t .tables .locations) (a .same-length);
+    same-list =
+        ap (λ z. z .live) (sample-stored (stepOf x s) s) ∙ ap (λ r. r .left .live) (same-step x)
+        ∙ sym (ap (λ z. z .live) (sample-stored (stepOf x t) t));
+    same-length =
+        ap (λ r. length (over (r .left .live) (s .tables .locations))) (same-step x)
+        ∙ over-lengths (stepOf x t .left .live) (s .tables .locations) (t .tables .locations) (a .same-length);
   }
 
   -- fresh starts of the same settings agree
@@ -130,8 +150,9 @@ module _ (s t : Tracker) (a : Agree s t) where
 
   -- each call judges alike
   refer-order : (x : ℕ) → referOrder x s ≡ referOrder x t
-  refer-order x = λ i. let k = a .same-record i in
-      (refusal.Torn when tornRecord k) ∷ (refusal.Tables when short _ _ same-settings i) ∷ (refusal.Full when full (k .numbers)) ∷ (refusal.Torn when same-torn x i) ∷ []
+  refer-order x = λ i. let kept = a .same-record i in
+      (refusal.Torn when tornRecord kept) ∷ (refusal.Tables when short _ _ same-settings i) ∷ (refusal.Full when full (kept .numbers))
+      ∷ (refusal.Torn when same-torn x i) ∷ []
 
   restart-order : restartOrder (s .kept) (s .tables) ≡ restartOrder (t .kept) (t .tables)
   restart-order = λ i. (refusal.Torn when tornRecord (a .same-record i)) ∷ (refusal.Tables when short _ _ same-settings i) ∷ []
@@ -141,13 +162,13 @@ module _ (s t : Tracker) (a : Agree s t) where
 
   apply-order : (e : Event) → applyOrder e s ≡ applyOrder e t
   apply-order (Location x) = refer-order x
-  apply-order (Span offset length) = ap (cond (eqb length 0) []) (refer-order (offset / blockBytes))
+  apply-order (Span offset bytes) = ap (cond (eqb bytes 0) []) (refer-order (offset / blockBytes))
   apply-order Restart = restart-order
   apply-order (Setup b) = setup-order (settingsOf b)
 
   apply-after : (e : Event) → Agree (applyAfter e s) (applyAfter e t)
   apply-after (Location x) = stored-agree x
-  apply-after (Span offset length) = cases (eqb length 0) (λ z. rw z a) (λ z. rw z (stored-agree (offset / blockBytes)))
+  apply-after (Span offset bytes) = cases (eqb bytes 0) (λ z. rw z a) (λ z. rw z (stored-agree (offset / blockBytes)))
   apply-after Restart = fresh-alike _ _ same-settings
   apply-after (Setup b) = fresh-alike _ _ refl
 
@@ -158,7 +179,8 @@ module _ (s t : Tracker) (a : Agree s t) where
   buckets-agree : (order order' : List Judged) (set set' : Settings) → order ≡ order' → set ≡ set'
       → leaves order (s .tables) (freshTables set (s .tables)) .histogram ≡ leaves order' (t .tables) (freshTables set' (t .tables)) .histogram
   buckets-agree order order' set set' e f = leaves-both (λ u v. u .histogram ≡ v .histogram) order order'
-      (s .tables) (freshTables set (s .tables)) (t .tables) (freshTables set' (t .tables)) e (a .same-buckets) (λ i. freshBuckets (f i) (a .same-buckets i))
+      (s .tables) (freshTables set (s .tables)) (t .tables) (freshTables set' (t .tables)) e (a .same-buckets)
+      (λ i. freshBuckets (f i) (a .same-buckets i))
 
   pub alike : Alike s t
   unfolding setupOf restartOf referOf
@@ -170,7 +192,9 @@ module _ (s t : Tracker) (a : Agree s t) where
     setup-says = λ given i. says (setup-order given i) (freshRecord (withDefaults given));
     setup-leaves = λ given. buckets-agree _ _ (withDefaults given) _ (setup-order given) refl;
     apply-says = λ e. ap (λ o. o .result) (apply-is e s) ∙ ap (λ l. says l tt) (apply-order e) ∙ sym (ap (λ o. o .result) (apply-is e t));
-    apply-leaves = λ e. subst₂ Agree (sym (ap (λ o. o .left) (apply-is e s))) (sym (ap (λ o. o .left) (apply-is e t))) (left-agree _ _ _ _ (apply-order e) (apply-after e));
+    apply-leaves =
+        λ e. subst₂ Agree (sym (ap (λ o. o .left) (apply-is e s))) (sym (ap (λ o. o .left) (apply-is e t)))
+        (left-agree _ _ _ _ (apply-order e) (apply-after e));
   }
 
 pub agree-again : AgreeAgain

@@ -1,4 +1,5 @@
--- Demand 3 over whole runs, but for "as if nothing else had been tracked". Assumes nothing.
+-- Demand 3 over whole runs, but for "as if nothing else had been tracked". The numbers and bounds are parts of the invariant; an answer is the
+-- history's by the cases of one reference, in `Steps`; a refusal leaves the run as it was. Assumes nothing.
 use Prim.Native.Nat.{ℕ}
 use mathlib.Core.Path.{_≡_, sym, ap, subst, _∙_}
 use mathlib.Core.List.{List, _∷_}
@@ -35,12 +36,12 @@ step-reply past s x run =
     let limit = s .kept .settings .limit in
     let start = s .kept .settings .start in
     let f = profileOf (s .kept .settings) in
-    let k = invariant run .tracked in
+    let tracked = invariant run .tracked in
     cases (inForce s x)
     (λ e. cases (has x past)
-    (λ m. rw (e, m) (replied-again h limit start x past (sampleOf s) k f e m))
-    (λ m. rw (e, m) (replied-first h limit start x past (sampleOf s) k f e m)))
-    (λ e. rw e (replied-skipped h limit start x past (sampleOf s) k f e))
+    (λ m. rw (e, m) (replied-again h limit start x past (sampleOf s) tracked f e m))
+    (λ m. rw (e, m) (replied-first h limit start x past (sampleOf s) tracked f e m)))
+    (λ e. rw e (replied-skipped h limit start x past (sampleOf s) tracked f e))
 
 -- an accepted reference answers the step's reply
 reply-step : (s after : Tracker) (x : ℕ) (r : Reply) → referOf x s ≡ record { result = gives r; left = after } → r ≡ stepOf x s .reply
@@ -50,7 +51,8 @@ pub whole-answers : Answers
 whole-answers past s after x r run e = reply-step s after x r e ∙ step-reply past s x run
 
 -- sampled rises where the answer is not Skipped
-sampled-more : (r : Reply) (n : Rattle.rules.specs.declared.Numbers.Numbers) (rs : List Reply) → n .sampled ≡ sampledIn rs → counted r n .sampled ≡ sampledIn (r ∷ rs)
+sampled-more : (r : Reply) (n : Rattle.rules.specs.declared.Numbers.Numbers) (rs : List Reply) → n .sampled ≡ sampledIn rs
+    → counted r n .sampled ≡ sampledIn (r ∷ rs)
 sampled-more skipped n rs e = e
 sampled-more first n rs e = omega arith
 sampled-more (again d) n rs e = omega arith

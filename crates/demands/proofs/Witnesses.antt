@@ -1,4 +1,4 @@
--- The demands are about something: runs that meet their premises. Assumes nothing.
+-- The demands are about something: runs that meet their premises. Each is written out call by call, and each call computes. Assumes nothing.
 use Prim.Native.Nat.{ℕ, _≤_}
 use mathlib.Core.Path.{_≡_, refl}
 use mathlib.Core.List.{List, [], _∷_}
@@ -28,9 +28,11 @@ pub record Falls : Type 0 where
   pub once : Run (3 ∷ 16777221 ∷ 5 ∷ []) (later falling (3 ∷ 16777221 ∷ 5 ∷ []))
   pub both-left : (later falling (3 ∷ 16777221 ∷ 5 ∷ []) .kept .threshold ≡ 5) × (liveOf (later falling (3 ∷ 16777221 ∷ 5 ∷ [])) ≡ 3 ∷ [])
   pub twice : Run (16777216 ∷ 0 ∷ 3 ∷ 16777221 ∷ 5 ∷ []) (later falling (16777216 ∷ 0 ∷ 3 ∷ 16777221 ∷ 5 ∷ []))
-  pub two-left : (later falling (16777216 ∷ 0 ∷ 3 ∷ 16777221 ∷ 5 ∷ []) .kept .threshold ≡ 3) × (liveOf (later falling (16777216 ∷ 0 ∷ 3 ∷ 16777221 ∷ 5 ∷ [])) ≡ 16777216 ∷ 0 ∷ [])
+  pub two-left : (later falling (16777216 ∷ 0 ∷ 3 ∷ 16777221 ∷ 5 ∷ []) .kept .threshold ≡ 3)
+      × (liveOf (later falling (16777216 ∷ 0 ∷ 3 ∷ 16777221 ∷ 5 ∷ [])) ≡ 16777216 ∷ 0 ∷ [])
   pub to-zero : Run (33554432 ∷ 16777216 ∷ 0 ∷ 3 ∷ 16777221 ∷ 5 ∷ []) (later falling (33554432 ∷ 16777216 ∷ 0 ∷ 3 ∷ 16777221 ∷ 5 ∷ []))
-  pub none-left : (later falling (33554432 ∷ 16777216 ∷ 0 ∷ 3 ∷ 16777221 ∷ 5 ∷ []) .kept .threshold ≡ 0) × (liveOf (later falling (33554432 ∷ 16777216 ∷ 0 ∷ 3 ∷ 16777221 ∷ 5 ∷ [])) ≡ [])
+  pub none-left : (later falling (33554432 ∷ 16777216 ∷ 0 ∷ 3 ∷ 16777221 ∷ 5 ∷ []) .kept .threshold ≡ 0)
+      × (liveOf (later falling (33554432 ∷ 16777216 ∷ 0 ∷ 3 ∷ 16777221 ∷ 5 ∷ [])) ≡ [])
 
 pub falls : Falls
 unfolding restartOf referOf tornRecord outOfRange hashOf firstFrom largest withinLimit sampledStep step tornBucket

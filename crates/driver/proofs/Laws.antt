@@ -1,4 +1,5 @@
--- How what a call leaves follows from what the rules say of it. Assumes nothing.
+-- How what a call leaves follows from what the rules say of it. Each law takes the contracts of the functions called, and rewrites by them.
+-- Assumes nothing.
 use Prim.Native.Nat.{ℕ}
 use mathlib.Core.Path.{_≡_}
 use mathlib.Core.List.{List}
@@ -12,7 +13,8 @@ use Rattle.words.specs.Words.{wordsOf, replyWords, orOld}
 use Rattle.driver.specs.Calls.{started, startedBy, referred, stepped, given, into, written}
 
 -- words lent for what a call gives
-pub gave : {A C : Type 0} (f : A → C) {s t : Result A} (old : C) {n : ℕ} {new : C} → s ≡ t → n ≡ numberOf s → new ≡ orOld f s old → given n new ≡ into f t old
+pub gave : {A C : Type 0} (f : A → C) {s t : Result A} (old : C) {n : ℕ} {new : C} → s ≡ t → n ≡ numberOf s → new ≡ orOld f s old
+    → given n new ≡ into f t old
 gave f old e number words = rw (← e, number, words)
 
 -- and one law for what is given, one for a refusal
@@ -30,7 +32,8 @@ began old e number words = rw (← e, number, words)
 
 -- a reference
 pub stepped-is : {o : Outcome Reply Tracker} {s : Result Reply} {kept : Record} {t : Tables} (old values : List ℕ) {n : ℕ} {new answer : List ℕ}
-    → record { result = s; left = record { kept = kept; tables = t } } ≡ o → n ≡ numberOf s → new ≡ orOld (λ _. wordsOf kept) s old → answer ≡ orOld replyWords s values
+    → record { result = s; left = record { kept = kept; tables = t } } ≡ o → n ≡ numberOf s → new ≡ orOld (λ _. wordsOf kept) s old
+    → answer ≡ orOld replyWords s values
     → referred n new answer t ≡ stepped o old values
 stepped-is old values e number words answer = rw (← e, number, words, answer)
 
@@ -39,5 +42,6 @@ pub unstepped : {o : Outcome Reply Tracker} {s : Result Reply} {kept : Record} {
 unstepped old values e is number = rw (← e, is, number)
 
 -- a written event
-pub wrote : {f : Outcome ℕ (List ℕ)} {s : Result ℕ} {m : ℕ} {buffer : List ℕ} → record { result = s; left = buffer } ≡ f → m ≡ numberOf s → given m buffer ≡ written f
+pub wrote : {f : Outcome ℕ (List ℕ)} {s : Result ℕ} {m : ℕ} {buffer : List ℕ} → record { result = s; left = buffer } ≡ f → m ≡ numberOf s
+    → given m buffer ≡ written f
 wrote e number = rw (← e, number)

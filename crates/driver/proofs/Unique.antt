@@ -1,4 +1,5 @@
--- Each promise decides the answer and all that is lent: any two results that it allows coincide. Assumes nothing.
+-- Each promise decides the answer and all that is lent: any two results that it allows coincide. Both are the same outcome, whose parts are read
+-- off. Assumes nothing.
 use Prim.Native.Nat.{ℕ}
 use mathlib.Core.Path.{_≡_, sym, ap, _∙_}
 use mathlib.Core.List.{List}
@@ -7,7 +8,8 @@ use Rattle.rules.specs.declared.Settings.{Settings}
 use Rattle.rules.specs.declared.Shape.{Shape}
 use Rattle.rules.specs.declared.Event.{Event}
 use Rattle.rules.specs.Settings.{Histogram, Tables}
-use Rattle.driver.specs.Calls.{hashIn, Started, started, setupIn, restartIn, Referred, referred, referIn, Given, given, pointIn, plotIn, readIn, writeIn}
+use Rattle.driver.specs.Calls.{hashIn, Started, started, setupIn, restartIn, Referred, referred}
+use Rattle.driver.specs.Calls.{referIn, Given, given, pointIn, plotIn, readIn, writeIn}
 
 -- what is left coincides where it is one of these
 abbrev StartedOnce : Started → Type 0
@@ -46,10 +48,12 @@ restart-once words tables = started-once _
 pub refer-once : (location : ℕ) (words answer : List ℕ) (tables : Tables) → ReferredOnce (referIn location words answer tables)
 refer-once location words answer tables = referred-once _
 
-pub point-once : (words : List ℕ) (believed : Shape) (number : ℕ) (g : Histogram) (values : List ℕ) → GivenOnce (pointIn words believed number g values)
+pub point-once : (words : List ℕ) (believed : Shape) (number : ℕ) (g : Histogram) (values : List ℕ)
+    → GivenOnce (pointIn words believed number g values)
 point-once words believed number g values = given-once _
 
-pub plot-once : (words : List ℕ) (believed : Shape) (number : ℕ) (g : Histogram) (values : List Float) → GivenOnce (plotIn words believed number g values)
+pub plot-once : (words : List ℕ) (believed : Shape) (number : ℕ) (g : Histogram) (values : List Float)
+    → GivenOnce (plotIn words believed number g values)
 plot-once words believed number g values = given-once _
 
 pub read-once : (bytes values : List ℕ) → GivenOnce (readIn bytes values)

@@ -1,4 +1,5 @@
--- How feeding goes, event by event, and one way to show a thing of every feeding. Assumes nothing.
+-- How feeding goes, event by event, and one way to show a thing of every feeding (`by-feeding`). By induction on the number of bytes: an event
+-- that is read takes at least one, so fewer are left. Assumes nothing.
 use Prim.Native.Nat.{ℕ, zero, suc, _/_, _≤_, _<_}
 use mathlib.Core.Path.{_≡_, refl, ap, _∙_}
 use mathlib.Core.Bool.{true, false, cond}
@@ -42,7 +43,8 @@ module _ {C : Type 0} (s : Tracker) where
     one-reference : (x : ℕ) → applyOf e s ≡ referAll (x ∷ []) s → ((past : List ℕ) → pastAfter e past ≡ x ∷ past) → freshStart e ≡ false → C
     unfolding referAll
     one-reference x is after not = refer-either x s
-        (λ a. f (stored (stepOf x s) s) (record { is = is ∙ rw (refer-accept x s a); runs = λ past r. rw after (refer r (refer-accept x s a)); begins = λ b. clash b not }))
+        (λ a. f (stored (stepOf x s) s)
+        (record { is = is ∙ rw (refer-accept x s a); runs = λ past r. rw after (refer r (refer-accept x s a)); begins = λ b. clash b not }))
         (λ n q. g n (is ∙ rw q))
 
   pub apply-either : (e : Event) → ((left : Tracker) → Took e s left → C) → ((n : ℕ) → applyOf e s ≡ outcome (refused n) s → C) → C
@@ -52,10 +54,16 @@ module _ {C : Type 0} (s : Tracker) where
       (λ z. no-reference (Span offset n) f g (rw z) (λ past. rw z) refl)
       (λ z. one-reference (Span offset n) f g (offset / blockBytes) (rw z) (λ past. rw z) refl)
   apply-either Restart f g = restart-either (s .kept) (s .tables)
-      (λ b. f (fresh (s .kept .settings) (s .tables)) (record { is = rw (b .is); runs = λ past r. restart (s .kept) (s .tables) (b .is); begins = λ t past. restart (s .kept) (s .tables) (b .is) }))
+      (λ b. f (fresh (s .kept .settings) (s .tables))
+      (record { is = rw (b .is); runs = λ past r. restart (s .kept) (s .tables) (b .is); begins = λ t past. restart (s .kept) (s .tables) (b .is) }))
       (λ n q. g n (rw q))
   apply-either (Setup b) f g = setup-either (settingsOf b) (s .tables)
-      (λ w. f (fresh (withDefaults (settingsOf b)) (s .tables)) (record { is = rw (w .is); runs = λ past r. setup (settingsOf b) (s .tables) (w .is); begins = λ t past. setup (settingsOf b) (s .tables) (w .is) }))
+      (λ w. f (fresh (withDefaults (settingsOf b)) (s .tables))
+      (record {
+        is = rw (w .is);
+        runs = λ past r. setup (settingsOf b) (s .tables) (w .is);
+        begins = λ t past. setup (settingsOf b) (s .tables) (w .is);
+      }))
       (λ n q. g n (rw q))
 
 -- ---- the first event, and then more
@@ -63,7 +71,8 @@ module _ {C : Type 0} (s : Tracker) where
 -- what comes after the first event is all that counts of what comes then
 module _ (bytes : List ℕ) (s : Tracker) (next other : List ℕ → Tracker → Feeding)
     (same : (g : Got) → readOf bytes ≡ gives g → (left : Tracker) → next (drop (g .taken) bytes) left ≡ other (drop (g .taken) bytes) left) where
-  event-same : (g : Got) → readOf bytes ≡ gives g → (said : Result (Unit {0})) (left : Tracker) → afterEvent next (g .taken) bytes said left ≡ afterEvent other (g .taken) bytes said left
+  event-same : (g : Got) → readOf bytes ≡ gives g → (said : Result (Unit {0})) (left : Tracker)
+      → afterEvent next (g .taken) bytes said left ≡ afterEvent other (g .taken) bytes said left
   event-same g e (refused n) left = refl
   event-same g e (gives u) left = ap (further (g .taken)) (same g e left)
 
@@ -94,7 +103,8 @@ unfolding feedOf feedMost
 first-then [] s = refl
 first-then (x ∷ bytes) s =
     first-same (x ∷ bytes) s (feedMost (length bytes)) feedOf
-    (λ g e left. most-same (length bytes) (length (drop (g .taken) (x ∷ bytes))) (drop (g .taken) (x ∷ bytes)) left (less (x ∷ bytes) e (omega arith)) (omega arith))
+    (λ g e left. most-same (length bytes) (length (drop (g .taken) (x ∷ bytes))) (drop (g .taken) (x ∷ bytes)) left (less (x ∷ bytes) e (omega arith))
+    (omega arith))
 
 -- ---- each way that feeding goes
 
@@ -112,13 +122,16 @@ module _ (P : List ℕ → Tracker → Feeding → Type 0)
     (ends : (s : Tracker) → P [] s (stopped (gives whole) s))
     (cut : (bytes : List ℕ) (s : Tracker) → 0 < length bytes → readOf bytes ≡ refused 7 → P bytes s (stopped (gives inside) s))
     (unknown : (bytes : List ℕ) (s : Tracker) (n : ℕ) → (n ≡ 7 → ⊥) → 0 < length bytes → readOf bytes ≡ refused n → P bytes s (stopped (refused n) s))
-    (refuses : (bytes : List ℕ) (s : Tracker) (g : Got) (n : ℕ) → readOf bytes ≡ gives g → applyOf (g .event) s ≡ outcome (refused n) s → P bytes s (stopped (refused n) s))
+    (refuses : (bytes : List ℕ) (s : Tracker) (g : Got) (n : ℕ) → readOf bytes ≡ gives g → applyOf (g .event) s ≡ outcome (refused n) s
+    → P bytes s (stopped (refused n) s))
     (goes : (bytes : List ℕ) (s : Tracker) (g : Got) (left : Tracker) → readOf bytes ≡ gives g → Took (g .event) s left
-    → P (drop (g .taken) bytes) left (feedOf (drop (g .taken) bytes) left) → P bytes s (further (g .taken) (feedOf (drop (g .taken) bytes) left))) where
+    → P (drop (g .taken) bytes) left (feedOf (drop (g .taken) bytes) left)
+    → P bytes s (further (g .taken) (feedOf (drop (g .taken) bytes) left))) where
   abbrev Most : ℕ → Type 0
   Most n = (bytes : List ℕ) (s : Tracker) → length bytes ≤ n → P bytes s (feedOf bytes s)
 
-  reading : (n : ℕ) → Most n → (bytes : List ℕ) (s : Tracker) → 0 < length bytes → length bytes ≤ suc n → (r : Result Got) → readOf bytes ≡ r → P bytes s (afterReading feedOf bytes r s)
+  reading : (n : ℕ) → Most n → (bytes : List ℕ) (s : Tracker) → 0 < length bytes → length bytes ≤ suc n → (r : Result Got) → readOf bytes ≡ r
+      → P bytes s (afterReading feedOf bytes r s)
   reading n rest bytes s some h (refused m) e = cases (eqb m 7)
       (λ q. rw q (cut bytes s some (e ∙ ap refused (eqb-true m 7 q))))
       (λ q. rw q (unknown bytes s m (eqb-false m 7 q) some e))
@@ -128,7 +141,8 @@ module _ (P : List ℕ → Tracker → Feeding → Type 0)
 
   one-more : (n : ℕ) → Most n → Most (suc n)
   one-more n rest [] s h = rw (feed-none [] s refl) (ends s)
-  one-more n rest (x ∷ bytes) s h = rw (feed-reads (x ∷ bytes) s (omega arith) (readOf (x ∷ bytes)) refl) (reading n rest (x ∷ bytes) s (omega arith) h (readOf (x ∷ bytes)) refl)
+  one-more n rest (x ∷ bytes) s h =
+      rw (feed-reads (x ∷ bytes) s (omega arith) (readOf (x ∷ bytes)) refl) (reading n rest (x ∷ bytes) s (omega arith) h (readOf (x ∷ bytes)) refl)
 
   most : (n : ℕ) → Most n
   most zero [] s h = rw (feed-none [] s refl) (ends s)

@@ -1,4 +1,5 @@
--- Feeding from a place of the bytes on: what each turn of the loop comes to. Assumes nothing.
+-- Feeding from a place of the bytes on: what each turn of the loop comes to. Each law puts the reading and the applying of one event in front of
+-- the feeding of what is left. Assumes nothing.
 use Prim.Native.Nat.{ℕ, _+_, _-_, _≤_, _<_}
 use mathlib.Core.Path.{_≡_, sym, ap, _∙_}
 use mathlib.Core.List.{List}
@@ -45,7 +46,8 @@ module _ {bytes : List ℕ} {first : Tracker} {at : ℕ} {s : Tracker} (w : Goin
       pub ahead : (0 < g .taken) × (g .taken ≤ length bytes - at)
       ahead = rw length-drop at (taken (drop at bytes) e)
 
-      pub at-refused : (n : ℕ) (left : Tracker) → record { result = refused n; left = left } ≡ applyOf (g .event) s → at-place at (refused n) left ≡ feedOf bytes first
+      pub at-refused : (n : ℕ) (left : Tracker) → record { result = refused n; left = left } ≡ applyOf (g .event) s
+          → at-place at (refused n) left ≡ feedOf bytes first
       at-refused n left q = stops (reads (gives g) e ∙ rw (← q))
 
       pub goes-on : (left : Tracker) → taking left ≡ applyOf (g .event) s → Going bytes first (at + g .taken) left

@@ -1,4 +1,5 @@
--- Feeding in pieces, cut anywhere, is feeding the whole. Assumes nothing.
+-- Feeding in pieces, cut anywhere, is feeding the whole. By `by-feeding`: an event that was read reads the same with more bytes behind it, and
+-- one that was cut is not taken, so that it is read again with them. Assumes nothing.
 use Prim.Native.Nat.{ℕ, _+_, _-_, _≤_, _<_}
 use mathlib.Core.Path.{_≡_, refl, sym, _∙_}
 use mathlib.Core.List.{List, _++_}
@@ -54,7 +55,8 @@ further-zero f = λ i. record { taken = zero-add (f .taken) i; result = f .resul
 pub further-further : (n m : ℕ) (f : Feeding) → further n (further m f) ≡ further (n + m) f
 further-further n m f = λ i. record { taken = sym (add-assoc n m (f .taken)) i; result = f .result; left = f .left }
 
-onward-further : (why : Result End) (n m : ℕ) (bytes more : List ℕ) (s : Tracker) → further n (onward why m (drop n bytes) more s) ≡ onward why (n + m) bytes more s
+onward-further : (why : Result End) (n m : ℕ) (bytes more : List ℕ) (s : Tracker)
+    → further n (onward why m (drop n bytes) more s) ≡ onward why (n + m) bytes more s
 onward-further (refused k) n m bytes more s = refl
 onward-further (gives e) n m bytes more s = rw (drop-drop m n bytes) (further-further n m _)
 
@@ -72,4 +74,5 @@ pieces bytes more = by-feeding (λ bytes s f. feedOf (bytes ++ more) s ≡ resum
     (λ bytes s g left e t h.
     let f = feedOf (drop (g .taken) bytes) left in
     more-reads bytes more s (omega (arith, taken bytes e)) (gives g) (read-more bytes more e)
-    ∙ rw (t .is, drop-append-le (g .taken) bytes more (taken bytes e .1), h) (onward-further (f .result) (g .taken) (f .taken) bytes more (f .left))) bytes
+    ∙ rw (t .is, drop-append-le (g .taken) bytes more (taken bytes e .1), h)
+    (onward-further (f .result) (g .taken) (f .taken) bytes more (f .left))) bytes

@@ -1,4 +1,5 @@
--- What feeding leaves is what a run leaves. Assumes nothing.
+-- What feeding leaves is what a run leaves. By `by-feeding`: an event that is taken goes on with a run, or begins one where it is a fresh start.
+-- Assumes nothing.
 use Prim.Native.Nat.{ℕ, _+_}
 use mathlib.Core.Path.{_≡_, refl}
 use mathlib.Core.List.{List, [], _∷_}

@@ -1,4 +1,5 @@
--- Each promise decides the answer and every lent table: any two that it allows coincide. Assumes nothing.
+-- Each promise decides the answer and every lent table: any two that it allows coincide. Endings that say the same are the same, constructor by
+-- constructor; the rest is read off. Assumes nothing.
 use Prim.Native.Nat.{ℕ}
 use mathlib.Core.Path.{_≡_, refl, sym, ap, _∙_}
 use mathlib.Core.List.{List}

@@ -1,7 +1,9 @@
--- A product modulo 2^64, by halves of 32 bits. Assumes nothing.
+-- A product modulo 2^64, by halves of 32 bits: multiplied out, the product of the upper halves is a multiple of 2^64, and of the two mixed
+-- products only the lower halves count. Assumes nothing.
 use mathlib.Core.Path.{_≡_, refl, sym, ap, _∙_, subst⁻¹}
 use Prim.Native.Nat.{ℕ, _+_, _*_, _/_, _%_, _^_, _<_}
-use native.Mathlib.Nat.{add-assoc, add-comm, add-left-comm, mul-assoc, mul-comm, mul-left-comm, mul-add, add-mul, le-of-lt, lt-of-le-of-lt, mul-le-mul-left, mul-lt-mul-of-pos-right}
+use native.Mathlib.Nat.{add-assoc, add-comm, add-left-comm, mul-assoc, mul-comm, mul-left-comm, mul-add}
+use native.Mathlib.Nat.{add-mul, le-of-lt, lt-of-le-of-lt, mul-le-mul-left, mul-lt-mul-of-pos-right}
 use native.Mathlib.Omega.{arith}
 use lib.Pow.{pow-pos, pow-add, split}
 
@@ -19,7 +21,8 @@ expand : (p a₀ a₁ b₀ b₁ : ℕ) → (a₁ * p + a₀) * (b₁ * p + b₀)
 expand p a₀ a₁ b₀ b₁ = simp (mul-add, add-mul, mul-assoc, mul-comm, mul-left-comm, add-assoc, add-comm, add-left-comm) refl
 
 -- what the program adds up is the product
-pub halves : (x m : ℕ) → ((x / 2 ^ 32 * (m % 2 ^ 32) + x % 2 ^ 32 * (m / 2 ^ 32)) % 2 ^ 64 % 2 ^ 32 * 2 ^ 32 + x % 2 ^ 32 * (m % 2 ^ 32)) % 2 ^ 64 ≡ x * m % 2 ^ 64
+pub halves : (x m : ℕ)
+    → ((x / 2 ^ 32 * (m % 2 ^ 32) + x % 2 ^ 32 * (m / 2 ^ 32)) % 2 ^ 64 % 2 ^ 32 * 2 ^ 32 + x % 2 ^ 32 * (m % 2 ^ 32)) % 2 ^ 64 ≡ x * m % 2 ^ 64
 halves x m =
     columns (x / 2 ^ 32 * (m / 2 ^ 32)) (x / 2 ^ 32 * (m % 2 ^ 32)) (x % 2 ^ 32 * (m / 2 ^ 32)) (x % 2 ^ 32 * (m % 2 ^ 32))
     ∙ ap (λ (n : ℕ). n % 2 ^ 64) (sym (expand (2 ^ 32) (x % 2 ^ 32) (x / 2 ^ 32) (m % 2 ^ 32) (m / 2 ^ 32)))

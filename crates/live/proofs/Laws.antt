@@ -1,4 +1,5 @@
--- The laws of a list of locations at the front of a table. Assumes nothing.
+-- The laws of a list of locations at the front of a table. Each loop has a record that it keeps (`Shifting`, `Keeping`), with a law for how it
+-- begins, for each turn and for its end; a lowering is put together from the laws of the others. Assumes nothing.
 use Prim.Native.Nat.{ℕ, zero, suc, _+_, _-_, _≤_, _<_, min, max}
 use mathlib.Core.Path.{_≡_, refl, sym, ap, _∙_}
 use mathlib.Core.Bool.{Bool, true, false, cond}
@@ -23,14 +24,16 @@ use Rattle.live.specs.Live.{movedToFront, remaining, remainingOf, loweri
 -- ---- the search, at the place i of the first n
 
 module _ (x n : ℕ) (xs : List ℕ) (i : ℕ) where
-  opened : i < min n (length xs) → firstFrom i x (drop i (take n xs)) ≡ cond (eqb (getD xs i 0) x) (some i) (firstFrom (suc i) x (drop (suc i) (take n xs)))
+  opened : i < min n (length xs)
+      → firstFrom i x (drop i (take n xs)) ≡ cond (eqb (getD xs i 0) x) (some i) (firstFrom (suc i) x (drop (suc i) (take n xs)))
   unfolding firstFrom
   opened h = rw (drop-cons (take n xs) i 0 (rw length-take h), getD-take n xs i 0 (omega arith))
 
   pub search-hit : i < min n (length xs) → getD xs i 0 ≡ x → firstFrom i x (drop i (take n xs)) ≡ some i
   search-hit h e = rw (opened h, eq-eqb _ _ e)
 
-  pub search-miss : i < min n (length xs) → (getD xs i 0 ≡ x → ⊥) → firstFrom i x (drop i (take n xs)) ≡ firstFrom (i + 1) x (drop (i + 1) (take n xs))
+  pub search-miss : i < min n (length xs) → (getD xs i 0 ≡ x → ⊥)
+      → firstFrom i x (drop i (take n xs)) ≡ firstFrom (i + 1) x (drop (i + 1) (take n xs))
   search-miss h e = rw (opened h, ne-eqb _ _ e, add-one)
 
   pub search-end : min n (length xs) ≤ i → firstFrom i x (drop i (take n xs)) ≡ none
@@ -54,11 +57,14 @@ module _ (d : ℕ) (xs : List ℕ) (h : d < length xs) where
   one-back : (now : List ℕ) (j : ℕ) → Shifting d xs now (suc j) → Shifting d xs (set now (suc j) (getD now j 0)) j
   one-back now j s =
       let rest = drop (suc j) (take d xs) ++ drop (suc d) xs in
-      let e : getD now j 0 ≡ getD xs j 0 = rw (s .is, List·getD-append (take (suc (suc j)) xs) rest 0 j (rw length-take (omega arith))) (getD-take (suc (suc j)) xs j 0 (omega arith)) in
-      let f : drop j (take d xs) ≡ getD xs j 0 ∷ drop (suc j) (take d xs) = drop-cons (take d xs) j 0 (rw length-take (omega arith)) ∙ ap (λ (y : ℕ). y ∷ drop (suc j) (take d xs)) (getD-take d xs j 0 (omega arith)) in
+      let e : getD now j 0 ≡ getD xs j 0 =
+      rw (s .is, List·getD-append (take (suc (suc j)) xs) rest 0 j (rw length-take (omega arith))) (getD-take (suc (suc j)) xs j 0 (omega arith)) in
+      let f : drop j (take d xs) ≡ getD xs j 0 ∷ drop (suc j) (take d xs) =
+      drop-cons (take d xs) j 0 (rw length-take (omega arith)) ∙ ap (λ (y : ℕ). y ∷ drop (suc j) (take d xs)) (getD-take d xs j 0 (omega arith)) in
       record {
         reach = omega arith;
-        is = rw (e, f, s .is, take-suc xs (suc j) 0 (omega arith), append-assoc) (set-at (take (suc j) xs) (getD xs (suc j) 0) rest (getD xs j 0) (suc j) (length-take-le (suc j) xs (omega arith)));
+        is = rw (e, f, s .is, take-suc xs (suc j) 0 (omega arith), append-assoc)
+            (set-at (take (suc j) xs) (getD xs (suc j) 0) rest (getD xs j 0) (suc j) (length-take-le (suc j) xs (omega arith)));
         same = length-set now (suc j) (getD now j 0) ∙ s .same;
       }
 
@@ -85,7 +91,8 @@ unfolding largest
 largest-append hash [] ys = omega arith
 largest-append hash (x ∷ xs) ys = rw (largest-append hash xs ys) (omega arith)
 
-pub largest-more : (hash : ℕ → ℕ) (xs : List ℕ) (i : ℕ) → i < length xs → largest hash (take (i + 1) xs) ≡ max (largest hash (take i xs)) (hash (getD xs i 0))
+pub largest-more : (hash : ℕ → ℕ) (xs : List ℕ) (i : ℕ) → i < length xs
+    → largest hash (take (i + 1) xs) ≡ max (largest hash (take i xs)) (hash (getD xs i 0))
 unfolding largest
 largest-more hash xs i h = rw (add-one, take-suc xs i 0 h, largest-append) (omega arith)
 
@@ -126,7 +133,8 @@ module _ (p : ℕ → Bool) (xs now : List ℕ) (number i : ℕ) (k : Keeping p 
       let e : keep p (take (i + 1) xs) ≡ keep p (take i xs) = more ∙ rw b' (append-nil (keep p (take i xs))) in
       record { reach = omega arith; less = omega arith; count = rw e (k .count); is = rw e (k .is); same = k .same }
 
-pub keep-end : (p : ℕ → Bool) (xs now : List ℕ) (number i n : ℕ) → Keeping p xs now number i → i ≡ min n (length xs) → remaining number now ≡ remaining (length (keep p (take n xs))) (over (keep p (take n xs)) xs)
+pub keep-end : (p : ℕ → Bool) (xs now : List ℕ) (number i n : ℕ) → Keeping p xs now number i → i ≡ min n (length xs)
+    → remaining number now ≡ remaining (length (keep p (take n xs))) (over (keep p (take n xs)) xs)
 keep-end p xs now number i n k m = rw (← takes xs i n (omega arith) (k .reach) (omega arith), k .count, k .is)
 
 -- ---- a lowering
@@ -167,12 +175,14 @@ pub record Fallen (hash : ℕ → ℕ) (t n x : ℕ) (xs : List ℕ) (own fallen
   pub own-is : own ≡ hash x
   pub fallen-is : fallen ≡ lowered hash t (x ∷ take n xs)
 
-pub falls : (hash : ℕ → ℕ) (t n x : ℕ) (xs : List ℕ) {own others most fallen : ℕ} → own ≡ hash x → others ≡ largest hash (take n xs) → most ≡ max own others → fallen ≡ min t most → Fallen hash t n x xs own fallen
+pub falls : (hash : ℕ → ℕ) (t n x : ℕ) (xs : List ℕ) {own others most fallen : ℕ} → own ≡ hash x → others ≡ largest hash (take n xs)
+    → most ≡ max own others → fallen ≡ min t most → Fallen hash t n x xs own fallen
 unfolding largest
 falls hash t n x xs p q r s = record { own-is = p; fallen-is = rw (← p, ← q, ← r) s }
 
 -- and of the first n those below it are remaining
-module _ (hash : ℕ → ℕ) (t n x : ℕ) (xs mid : List ℕ) (own fallen number : ℕ) (f : Fallen hash t n x xs own fallen) (k : remaining number mid ≡ remainingOf hash fallen n xs) where
+module _ (hash : ℕ → ℕ) (t n x : ℕ) (xs mid : List ℕ) (own fallen number : ℕ) (f : Fallen hash t n x xs own fallen)
+    (k : remaining number mid ≡ remainingOf hash fallen n xs) where
   pub room : own < fallen → number < length xs
   room h =
       let l : hash x < lowered hash t (x ∷ take n xs) = rw (← f .own-is, ← f .fallen-is) h in
@@ -183,7 +193,15 @@ module _ (hash : ℕ → ℕ) (t n x : ℕ) (xs mid : List ℕ) (own fallen numb
   pub stays : own < fallen → lowering (record { threshold = fallen; live = number + 1 }) (movedToFront number x mid) ≡ loweringOf hash t n x xs
   stays h =
       let q : number ≡ length (keepBelow hash fallen (take n xs)) = ap (λ r. r .number) k in
-      rw (ap (λ r. r .table) k, q, ← f .fallen-is, ← f .own-is, lt-ltb _ _ h, moved-kept x (keepBelow hash fallen (take n xs)) xs (rw (← q) (room h)), add-one)
+      rw (
+        ap (λ r. r .table) k,
+        q,
+        ← f .fallen-is,
+        ← f .own-is,
+        lt-ltb _ _ h,
+        moved-kept x (keepBelow hash fallen (take n xs)) xs (rw (← q) (room h)),
+        add-one,
+      )
 
   pub goes : fallen ≤ own → lowering (record { threshold = fallen; live = number }) mid ≡ loweringOf hash t n x xs
   goes h = rw (ap (λ r. r .number) k, ap (λ r. r .table) k, ← f .fallen-is, ← f .own-is, le-ltb _ _ h)
@@ -192,7 +210,8 @@ module _ (hash : ℕ → ℕ) (t n x : ℕ) (xs mid : List ℕ) (own fallen numb
 
 -- a place that was found is one of the first n
 pub found-below : (x n : ℕ) (xs : List ℕ) (d : ℕ) → firstPlace x (take n xs) ≡ some d → (d < n) × (d < length xs)
-found-below x n xs d e = let h : d < length (take n xs) = found-lt x (take n xs) d e in (omega (arith, length-take n xs), omega (arith, length-take n xs))
+found-below x n xs d e = let h : d < length (take n xs) = found-lt x (take n xs) d e in
+    (omega (arith, length-take n xs), omega (arith, length-take n xs))
 
 -- a move to the front within the first n
 pub moved-over : (x d n : ℕ) (xs : List ℕ) → d < n → n ≤ length xs → movedToFront d x xs ≡ over (toFront d x (take n xs)) xs
@@ -211,4 +230,5 @@ pub lowering-live : (hash : ℕ → ℕ) (t n x : ℕ) (xs : List ℕ) → lower
 lowering-live hash t n x xs = omega (arith, lowered-length hash t x (take n xs), length-take n xs)
 
 pub lowering-length : (hash : ℕ → ℕ) (t n x : ℕ) (xs : List ℕ) → length (loweringOf hash t n x xs .table) ≡ length xs
-lowering-length hash t n x xs = over-length (keepBelow hash (lowered hash t (x ∷ take n xs)) (x ∷ take n xs)) xs (omega (arith, lowering-live hash t n x xs))
+lowering-length hash t n x xs =
+    over-length (keepBelow hash (lowered hash t (x ∷ take n xs)) (x ∷ take n xs)) xs (omega (arith, lowering-live hash t n x xs))

@@ -33,8 +33,10 @@ module _ (xs : List ℕ) (n : ℕ) where
     pub largest-hash-unique : (r s : ℕ) → r ≡ largest (hashOf h) (take n xs) → s ≡ largest (hashOf h) (take n xs) → r ≡ s
     largest-hash-unique r s e f = e ∙ sym f
 
-    pub keep-below-unique : (t r s : ℕ) (ys zs : List ℕ) → remaining r ys ≡ remainingOf (hashOf h) t n xs → remaining s zs ≡ remainingOf (hashOf h) t n xs → (r ≡ s) × (ys ≡ zs)
+    pub keep-below-unique : (t r s : ℕ) (ys zs : List ℕ) → remaining r ys ≡ remainingOf (hashOf h) t n xs
+        → remaining s zs ≡ remainingOf (hashOf h) t n xs → (r ≡ s) × (ys ≡ zs)
     keep-below-unique t r s ys zs e f = let g = e ∙ sym f in (ap (λ k. k .number) g, ap (λ k. k .table) g)
 
-    pub lower-unique : (t x : ℕ) (r s : Lowered) (ys zs : List ℕ) → lowering r ys ≡ loweringOf (hashOf h) t n x xs → lowering s zs ≡ loweringOf (hashOf h) t n x xs → (r ≡ s) × (ys ≡ zs)
+    pub lower-unique : (t x : ℕ) (r s : Lowered) (ys zs : List ℕ) → lowering r ys ≡ loweringOf (hashOf h) t n x xs
+        → lowering s zs ≡ loweringOf (hashOf h) t n x xs → (r ≡ s) × (ys ≡ zs)
     lower-unique t x r s ys zs e f = let g = e ∙ sym f in (ap (λ k. k .result) g, ap (λ k. k .table) g)

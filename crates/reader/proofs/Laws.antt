@@ -1,4 +1,5 @@
--- Laws of the reader: where a step leads, and which whole events stand at the front. Assumes nothing.
+-- Laws of the reader: where a step leads, and which whole events stand at the front. A step is a reading of what is left. The whole events go by
+-- induction on a bound of their number, which does not matter once it is as large as the bytes (`to-enough`). Assumes nothing.
 use Prim.Native.Nat.{ℕ, zero, suc, _+_, _≤_, _<_}
 use mathlib.Core.Path.{_≡_, refl, sym, ap, _∙_}
 use mathlib.Core.List.{List, [], _∷_, map}
@@ -16,7 +17,8 @@ use Rattle.rules.proofs.Events.{got, read-empty, taken}
 use Rattle.reader.specs.declared.Reader.{Reader}
 use Rattle.reader.specs.declared.Moved.{Moved}
 use Rattle.reader.specs.declared.Advanced.{Advanced}
-use Rattle.reader.specs.Reader.{leftAt, readAt, past, placeAfter, stepAt, advancedResult, atFront, nextOf, movedResult, wholeTo, wholeOf, takenBy, frontOf, steps, readings}
+use Rattle.reader.specs.Reader.{leftAt, readAt, past, placeAfter, stepAt, advancedResult, atFront}
+use Rattle.reader.specs.Reader.{nextOf, movedResult, wholeTo, wholeOf, takenBy, frontOf, steps, readings}
 
 -- ---- a place at the end of the bytes or beyond it
 
@@ -34,14 +36,15 @@ module _ (bytes : List ℕ) (at : ℕ) (beyond : length bytes ≤ at) where
 
 -- what is left after a step is what is unread of what was left
 pub left-after : (bytes : List ℕ) (at : ℕ) → leftAt bytes (placeAfter bytes at) ≡ unreadOf (leftAt bytes at)
-left-after bytes at = by (readAt bytes at)
+left-after bytes at = after-reading (readAt bytes at)
   where
-    by : (q : Result Got) → drop (past at q) bytes ≡ unreadAfter q (drop at bytes)
-    by (refused n) = refl
-    by (gives g) = sym (drop-drop (g .taken) at bytes)
+    after-reading : (q : Result Got) → drop (past at q) bytes ≡ unreadAfter q (drop at bytes)
+    after-reading (refused n) = refl
+    after-reading (gives g) = sym (drop-drop (g .taken) at bytes)
 
 -- the same by the promise of `next` alone
-pub moved-left : (r : Reader) (m : Moved) → movedResult m ≡ nextOf r → leftAt (now (m .reader .src)) (m .reader .at) ≡ unreadOf (leftAt (now (r .src)) (r .at))
+pub moved-left : (r : Reader) (m : Moved) → movedResult m ≡ nextOf r
+    → leftAt (now (m .reader .src)) (m .reader .at) ≡ unreadOf (leftAt (now (r .src)) (r .at))
 moved-left r m k = ap (λ z. leftAt (now (z .reader .src)) (z .reader .at)) k ∙ left-after (now (r .src)) (r .at)
 
 -- a reader's steps say what reading says of what is left, with the unread part taken again and again
@@ -69,7 +72,8 @@ to-enough zero (suc n) s h k = rw (read-empty s (omega arith))
 to-enough (suc m) zero s h k = rw (read-empty s (omega arith))
 to-enough (suc m) (suc n) s h k = result-cases (readOf s)
     (λ i e. rw e)
-    (λ g e. let t = taken s e in rw e (ap (λ l. g ∷ l) (to-enough m n (drop (g .taken) s) (simp length-drop (omega arith)) (simp length-drop (omega arith)))))
+    (λ g e. let t = taken s e in
+    rw e (ap (λ l. g ∷ l) (to-enough m n (drop (g .taken) s) (simp length-drop (omega arith)) (simp length-drop (omega arith)))))
 
 pub whole-refused : (s : List ℕ) (n : ℕ) → readOf s ≡ refused n → wholeOf s ≡ []
 unfolding wholeOf

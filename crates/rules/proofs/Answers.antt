@@ -1,4 +1,5 @@
--- The numbers of what is said. The reading of each answer is injective: what a promise says of an answer's number and values decides the answer. Assumes nothing.
+-- What an answer says decides the answer: the reading of each kind of answer is injective. A function undoes it, which finds a refusal by its
+-- number and the rest by its constructor. Assumes nothing.
 use Prim.Native.Nat.{ℕ, _<_}
 use mathlib.Core.Path.{_≡_, refl, sym, ap, _∙_}
 use mathlib.Core.Bool.{cond}
@@ -23,7 +24,8 @@ use Rattle.rules.specs.declared.Written.{Written}
 use Rattle.rules.specs.declared.Written.the-variants as written
 use Rattle.rules.specs.Settings.{Tables}
 use Rattle.rules.specs.Reference.{Reply, skipped, first, again}
-use Rattle.rules.specs.Answers.{Result, refused, gives, number, numberOf, Got, startedResult, replyResult, pointResult, plotResult, takenResult, readingResult, writtenResult}
+use Rattle.rules.specs.Answers.{Result, refused, gives, number, numberOf, Got, startedResult, replyResult, pointResult}
+use Rattle.rules.specs.Answers.{plotResult, takenResult, readingResult, writtenResult}
 
 -- what undoes a reading makes it injective
 pub undone : {A B : Type 0} (f : A → B) (g : B → A) → ((a : A) → g (f a) ≡ a) → (a b : A) → f a ≡ f b → a ≡ b
@@ -80,7 +82,7 @@ back refusing giving (gives a) = giving a
 pub started-injective : (a b : Started) → startedResult a ≡ startedResult b → a ≡ b
 unfolding back
 started-injective = undone startedResult (back started.Refused started.Ready)
-    (elim [ started.Ready k ↦ refl | started.Refused r ↦ ap started.Refused (named-number r) ])
+    (elim [ started.Ready kept ↦ refl | started.Refused r ↦ ap started.Refused (named-number r) ])
 
 replied : Reply → Answer
 replied skipped = answer.Skipped

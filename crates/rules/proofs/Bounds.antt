@@ -1,4 +1,5 @@
--- What is known once a test on the record, the tables or a bucket was passed. Assumes nothing.
+-- What is known once a test on the record, the tables or a bucket was passed, and the other way round. Each test is a chain of `||`: `neither`
+-- takes it apart link by link, and a link that is false is a bound. Assumes nothing.
 use Prim.Native.Nat.{ℕ, _*_, _^_, _≤_, _<_}
 use mathlib.Core.Path.{_≡_}
 use mathlib.Core.Bool.{false}
@@ -9,7 +10,8 @@ use lib.Dec.{eqb}
 use borrow.Author.Tests.{eqb-false, ltb-false, ne-eqb, le-ltb}
 use Rattle.rules.specs.declared.Settings.{Settings}
 use Rattle.rules.specs.declared.Record.{Record}
-use Rattle.rules.specs.Settings.{outOfRange, Histogram, Tables, needed, fullRate, mostReferences, mostBuckets, mostLimit, mostWidth, oneReference, outside}
+use Rattle.rules.specs.Settings.{outside, outOfRange, Histogram, Tables, needed, fullRate, mostReferences}
+use Rattle.rules.specs.Settings.{mostBuckets, mostLimit, mostWidth, oneReference}
 use Rattle.rules.specs.Reference.{rescaled}
 use Rattle.rules.specs.Conditions.{bucketsTooShort, tooShort, tornRecord, tornBucket}
 use Rattle.rules.proofs.Tests.{neither}

@@ -1,4 +1,5 @@
--- Recording in one bucket: what the sums of a histogram become, and which buckets stay. Assumes nothing.
+-- Recording in one bucket: what the sums of a histogram become, and which buckets stay. A bucket is read back by the laws of `set`; the sums go
+-- by induction on the number of buckets. Assumes nothing.
 use Prim.Native.Nat.{ℕ, zero, suc, _+_, _≤_, _<_}
 use mathlib.Core.Path.{_≡_, refl, ap₂}
 use mathlib.Core.Logic.{_≢_}
@@ -47,7 +48,8 @@ module _ (t j : ℕ) (g : Histogram) where
   raw-before zero h = refl
   raw-before (suc n) h = ap₂ (λ a b. a + b) (raw-before n (omega arith)) (count-other n (omega arith))
 
-  pub raw-recorded : j < length (g .counts) → (n : ℕ) → j < n → rawTo n (recordIn t j g) + countAt j g ≡ rawTo n g + (rescaled t (countAt j g) (thresholdAt j g) + oneReference)
+  pub raw-recorded : j < length (g .counts) → (n : ℕ) → j < n
+      → rawTo n (recordIn t j g) + countAt j g ≡ rawTo n g + (rescaled t (countAt j g) (thresholdAt j g) + oneReference)
   unfolding rawTo
   raw-recorded h zero b = omega arith
   raw-recorded h (suc n) b = cases (eqb n j)

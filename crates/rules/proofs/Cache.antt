@@ -1,4 +1,5 @@
--- The cache of n blocks holds the first n of the recency list, so a reference hits where its distance is below n. Assumes nothing.
+-- The cache of n blocks holds the first n of the recency list, so a reference hits where its distance is below n. By induction on the history:
+-- touching the first n of a list leaves the first n of the list with the block moved to its front (`touch-take`). Assumes nothing.
 use Prim.Native.Nat.{ℕ, zero, suc}
 use mathlib.Core.Path.{_≡_, refl, sym, ap, _∙_}
 use mathlib.Core.Bool.{true, false, cond}
@@ -45,7 +46,9 @@ touch-take (suc n) x l = cases (has x (take (suc n) l))
 pub cached-is : (n : ℕ) (past : List ℕ) → cached n past ≡ take n (recency past)
 cached-is zero [] = refl
 cached-is (suc n) [] = refl
-cached-is n (x ∷ past) = ap (λ z. touch n z x) (cached-is n past) ∙ touch-take n x (recency past) ∙ ap (λ z. take n (x ∷ z)) (erase-without x (recency past) (recency-once past))
+cached-is n (x ∷ past) =
+    ap (λ z. touch n z x) (cached-is n past) ∙ touch-take n x (recency past)
+    ∙ ap (λ z. take n (x ∷ z)) (erase-without x (recency past) (recency-once past))
 
 pub hit-is : (n x : ℕ) (past : List ℕ) → has x (cached n past) ≡ cond (has x past) (ltb (length (recency (upto x past))) n) false
 hit-is n x past = rw (cached-is, has-take, has-recency, upto-recency)

@@ -1,4 +1,5 @@
--- The calls, case by case: what each answers and leaves where a test holds, and what an accepted one leaves. Assumes nothing.
+-- The calls, case by case: what each answers and leaves where a test holds, and what an accepted one leaves. Each call is an order of refusals,
+-- so its cases are `Order`'s laws at the place of the first test that holds. Assumes nothing.
 use Prim.Native.Nat.{ℕ, _+_, _≤_}
 use mathlib.Core.Path.{_≡_, refl, ap}
 use mathlib.Core.Bool.{true, false}
@@ -51,12 +52,14 @@ module _ (s : Settings) (t : Tables) where
   pub setup-short : outOfRange (withDefaults s) ≡ false → tooShort (withDefaults s) t ≡ true → setupOf s t ≡ record { result = refused 2; left = t }
   setup-short e f = setup-refused 1 (e, f)
 
-  pub setup-accept : outOfRange (withDefaults s) ≡ false → tooShort (withDefaults s) t ≡ false → setupOf s t ≡ record { result = gives (freshRecord (withDefaults s)); left = freshTables (withDefaults s) t }
+  pub setup-accept : outOfRange (withDefaults s) ≡ false → tooShort (withDefaults s) t ≡ false
+      → setupOf s t ≡ record { result = gives (freshRecord (withDefaults s)); left = freshTables (withDefaults s) t }
   unfolding setupOf
   setup-accept e f = rw (e, f)
 
   -- either nothing refuses it, or it is refused and leaves the tables as they were
-  pub setup-either : {C : Type 0} → (Begins (withDefaults s) t (setupOf s t) → C) → ((n : ℕ) → setupOf s t ≡ record { result = refused n; left = t } → C) → C
+  pub setup-either : {C : Type 0} → (Begins (withDefaults s) t (setupOf s t) → C)
+      → ((n : ℕ) → setupOf s t ≡ record { result = refused n; left = t } → C) → C
   setup-either accept refuse = either (setupOrder s t)
       (λ w. accept (record { range = w .0; long = w .1 .0; is = setup-accept (w .0) (w .1 .0) }))
       (λ i f. refuse (refusalAt i (setupOrder s t)) (setup-refused i f))
@@ -65,7 +68,8 @@ module _ (s : Settings) (t : Tables) where
   setup-begins kept a = setup-either (λ w. w) (λ n e. absurd (not-both (ap (λ b. b .result) e) a))
 
 module _ (kept : Record) (t : Tables) where
-  restart-refused : (i : ℕ) → FirstAt i (restartOrder kept t) → restartOf kept t ≡ record { result = refused (refusalAt i (restartOrder kept t)); left = t }
+  restart-refused : (i : ℕ) → FirstAt i (restartOrder kept t)
+      → restartOf kept t ≡ record { result = refused (refusalAt i (restartOrder kept t)); left = t }
   unfolding restartOf
   restart-refused n f = let order = restartOrder kept t in let set = kept .settings in
       λ i. record { result = says-refused n order (freshRecord set) f i; left = leaves-first n order t (freshTables set t) f i }
@@ -76,11 +80,13 @@ module _ (kept : Record) (t : Tables) where
   pub restart-short : tornRecord kept ≡ false → tooShort (kept .settings) t ≡ true → restartOf kept t ≡ record { result = refused 2; left = t }
   restart-short e f = restart-refused 1 (e, f)
 
-  pub restart-accept : tornRecord kept ≡ false → tooShort (kept .settings) t ≡ false → restartOf kept t ≡ record { result = gives (freshRecord (kept .settings)); left = freshTables (kept .settings) t }
+  pub restart-accept : tornRecord kept ≡ false → tooShort (kept .settings) t ≡ false
+      → restartOf kept t ≡ record { result = gives (freshRecord (kept .settings)); left = freshTables (kept .settings) t }
   unfolding restartOf
   restart-accept e f = rw (e, f)
 
-  pub restart-either : {C : Type 0} → (Begins (kept .settings) t (restartOf kept t) → C) → ((n : ℕ) → restartOf kept t ≡ record { result = refused n; left = t } → C) → C
+  pub restart-either : {C : Type 0} → (Begins (kept .settings) t (restartOf kept t) → C)
+      → ((n : ℕ) → restartOf kept t ≡ record { result = refused n; left = t } → C) → C
   restart-either accept refuse = either (restartOrder kept t)
       (λ w. accept (record { range = whole kept (w .0) .settings-whole; long = w .1 .0; is = restart-accept (w .0) (w .1 .0) }))
       (λ i f. refuse (refusalAt i (restartOrder kept t)) (restart-refused i f))
@@ -142,7 +148,8 @@ pub record Answered (kept : Record) (believed : Shape) (n : ℕ) (g : Histogram)
   pub some-total : eqb (totalOf (kept .threshold) (kept .settings .buckets) g) 0 ≡ false
 
 module _ (kept : Record) (believed : Shape) (n : ℕ) (g : Histogram) where
-  point-refused : (i : ℕ) → FirstAt i (pointOrder kept believed n g) → pointOf kept believed n g ≡ refused (refusalAt i (pointOrder kept believed n g))
+  point-refused : (i : ℕ) → FirstAt i (pointOrder kept believed n g)
+      → pointOf kept believed n g ≡ refused (refusalAt i (pointOrder kept believed n g))
   unfolding pointOf
   point-refused i f = says-refused i (pointOrder kept believed n g) (curvePoint (profileOf (kept .settings)) (kept .threshold) n g) f
 
@@ -162,7 +169,8 @@ module _ (kept : Record) (believed : Shape) (n : ℕ) (g : Histogram) where
         point-number l = point-refused 3 (e, (f, (h, l)))
 
         module _ (l : ltb (kept .settings .buckets) n ≡ false) where
-          pub point-buckets : tornReport (kept .numbers .references) (kept .threshold) (kept .settings .buckets) g ≡ true → pointOf kept believed n g ≡ refused 3
+          pub point-buckets : tornReport (kept .numbers .references) (kept .threshold) (kept .settings .buckets) g ≡ true
+              → pointOf kept believed n g ≡ refused 3
           point-buckets t = point-refused 4 (e, (f, (h, (l, t))))
 
           module _ (t : tornReport (kept .numbers .references) (kept .threshold) (kept .settings .buckets) g ≡ false) where
@@ -177,7 +185,14 @@ module _ (kept : Record) (believed : Shape) (n : ℕ) (g : Histogram) where
   unfolding pointOf
   point-accepted e = let w = says-accepted (pointOrder kept believed n g) (curvePoint (profileOf (kept .settings)) (kept .threshold) n g) e in
       let v = w .1 .1 .1 in
-      record { record-whole = w .0; buckets-long = w .1 .0; shape-same = w .1 .1 .0; on-curve = v .0; report-whole = v .1 .0; some-total = v .1 .1 .0 }
+      record {
+        record-whole = w .0;
+        buckets-long = w .1 .0;
+        shape-same = w .1 .1 .0;
+        on-curve = v .0;
+        report-whole = v .1 .0;
+        some-total = v .1 .1 .0;
+      }
 
 -- ---- a point as a pair of doubles: the point's answer, with its value changed
 
@@ -197,27 +212,32 @@ plot-is kept believed n g = plotted-says (pointOrder kept believed n g) (curvePo
 
 -- where the tables say the list and the buckets stand, the step is read back
 pub sample-stored : (r : Stepped) (s : Tracker) → sampleOf (stored r s) ≡ r .left
-sample-stored r s = λ i. record { threshold = r .left .threshold; live = over-front (r .left .live) (s .tables .locations) i; histogram = r .left .histogram }
+sample-stored r s =
+    λ i. record { threshold = r .left .threshold; live = over-front (r .left .live) (s .tables .locations) i; histogram = r .left .histogram }
 
-within-limit-length : (hash : ℕ → ℕ) (limit t : ℕ) (l : List ℕ) (g : Histogram) → length l ≤ limit + 1 → length (withinLimit hash limit t l g .live) ≤ limit
+within-limit-length : (hash : ℕ → ℕ) (limit t : ℕ) (l : List ℕ) (g : Histogram) → length l ≤ limit + 1
+    → length (withinLimit hash limit t l g .live) ≤ limit
 unfolding withinLimit
 within-limit-length hash limit t l g h = cases (ltb limit (length l))
     (λ o. rw o (omega (arith, largest-leaves hash (lowered hash t l) l (omega (arith, ltb-true limit (length l) o)) (omega arith))))
     (λ o. rw o (ltb-false limit (length l) o))
 
 -- never more than the limit are live, whatever the list tracker
-pub step-live : (hash : ℕ → ℕ) (limit : ℕ) (f : Profile) (x : ℕ) (s : Sample) → length (s .live) ≤ limit → length (step hash limit f x s .left .live) ≤ limit
+pub step-live : (hash : ℕ → ℕ) (limit : ℕ) (f : Profile) (x : ℕ) (s : Sample) → length (s .live) ≤ limit
+    → length (step hash limit f x s .left .live) ≤ limit
 step-live hash limit f x s h = cases (under hash (s .threshold) x)
     (λ e. cases (has x (s .live))
     (λ m. rw (step-again hash limit f x s e m) (omega (arith, length-erase x (s .live) m)))
     (λ m. rw (step-first hash limit f x s e m) (within-limit-length hash limit (s .threshold) (x ∷ s .live) _ (omega arith))))
     (λ e. rw (step-skipped hash limit f x s e) h)
 
-step-long : (hash : ℕ → ℕ) (limit : ℕ) (f : Profile) (x : ℕ) (s : Sample) (n : ℕ) → Long n (s .histogram) → Long n (step hash limit f x s .left .histogram)
+step-long : (hash : ℕ → ℕ) (limit : ℕ) (f : Profile) (x : ℕ) (s : Sample) (n : ℕ) → Long n (s .histogram)
+    → Long n (step hash limit f x s .left .histogram)
 step-long hash limit f x s n l = cases (under hash (s .threshold) x)
     (λ e. cases (has x (s .live))
     (λ m. rw (step-again hash limit f x s e m) (long-record (s .threshold) _ (s .histogram) n l))
-    (λ m. rw (step-first hash limit f x s e m, within-limit-histogram hash limit (s .threshold) (x ∷ s .live)) (long-record (s .threshold) _ (s .histogram) n l)))
+    (λ m. rw (step-first hash limit f x s e m, within-limit-histogram hash limit (s .threshold) (x ∷ s .live))
+    (long-record (s .threshold) _ (s .histogram) n l)))
     (λ e. rw (step-skipped hash limit f x s e) l)
 
 counted-references : (r : Reply) (n : Numbers) → counted r n .references ≡ n .references + 1
@@ -247,13 +267,30 @@ module _ (x : ℕ) (s : Tracker) (a : Accepted x s) where
   -- the record left is not torn
   pub left-whole : tornRecord (stored (stepOf x s) s .kept) ≡ false
   left-whole = untorn (stored (stepOf x s) s .kept) (record-bounds .settings-whole) live-left
-      (omega (arith, step-falls (hashFor (kept .settings)) (kept .settings .limit) (profileOf (kept .settings)) x (sampleOf s), record-bounds .threshold-high))
-      (omega (arith, counted-sampled (stepOf x s .reply) (kept .numbers) (record-bounds .sampled-high), counted-references (stepOf x s .reply) (kept .numbers)))
-      (omega (arith, counted-references (stepOf x s .reply) (kept .numbers), record-bounds .references-high, eqb-false (kept .numbers .references) mostReferences (a .room)))
+      (omega (
+        arith,
+        step-falls (hashFor (kept .settings)) (kept .settings .limit) (profileOf (kept .settings)) x (sampleOf s),
+        record-bounds .threshold-high,
+      ))
+      (omega (
+        arith,
+        counted-sampled (stepOf x s .reply) (kept .numbers) (record-bounds .sampled-high),
+        counted-references (stepOf x s .reply) (kept .numbers),
+      ))
+      (omega (
+        arith,
+        counted-references (stepOf x s .reply) (kept .numbers),
+        record-bounds .references-high,
+        eqb-false (kept .numbers .references) mostReferences (a .room),
+      ))
 
   -- nor are the tables left too short
   pub left-long : tooShort (kept .settings) (stored (stepOf x s) s .tables) ≡ false
   left-long = none-short (kept .settings) (stored (stepOf x s) s .tables) (record {
-    locations-long = rw (over-length (stepOf x s .left .live) (s .tables .locations) (omega (arith, live-left, tables-bounds .locations-long))) (tables-bounds .locations-long);
-    buckets = step-long (hashFor (kept .settings)) (kept .settings .limit) (profileOf (kept .settings)) x (sampleOf s) (needed (kept .settings .buckets)) (tables-bounds .buckets);
+    locations-long =
+        rw (over-length (stepOf x s .left .live) (s .tables .locations) (omega (arith, live-left, tables-bounds .locations-long)))
+        (tables-bounds .locations-long);
+    buckets =
+        step-long (hashFor (kept .settings)) (kept .settings .limit) (profileOf (kept .settings)) x (sampleOf s) (needed (kept .settings .buckets))
+        (tables-bounds .buckets);
   })

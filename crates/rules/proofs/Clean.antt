@@ -1,4 +1,5 @@
--- In a run from a fresh start no bucket is torn: one reference keeps every bucket's threshold and count within bounds. Assumes nothing.
+-- In a run from a fresh start no bucket is torn: one reference keeps every bucket's threshold and count within bounds. By the cases of a
+-- reference: the bucket recorded in gets the present threshold and at most one reference more, the others stay. Assumes nothing.
 use Prim.Native.Nat.{ℕ, _+_, _*_, _≤_, _<_}
 use mathlib.Core.Path.{_≡_}
 use mathlib.Core.List.{List, _∷_}
@@ -10,11 +11,13 @@ use borrow.Author.Tests.{ltb-true, eqb-true, eqb-false}
 use Rattle.rules.specs.declared.Settings.{Settings}
 use Rattle.rules.specs.Lists.{has, upto}
 use Rattle.rules.specs.Settings.{Histogram, Tables, needed, oneReference}
-use Rattle.rules.specs.Reference.{Sample, Profile, under, scaledDistance, rescaled, countAt, thresholdAt, recordIn, bucketFor, withinLimit, step}
+use Rattle.rules.specs.Reference.{Sample, Profile, under, scaledDistance, rescaled, countAt}
+use Rattle.rules.specs.Reference.{thresholdAt, recordIn, bucketFor, withinLimit, step}
 use Rattle.rules.specs.Curve.{rawTo}
 use Rattle.rules.specs.Layout.{freshTables}
 use Rattle.rules.proofs.Tests.{cases}
-use Rattle.rules.proofs.Buckets.{Long, long-record, rescaled-le, count-other, threshold-other, count-recorded, threshold-recorded, raw-recorded}
+use Rattle.rules.proofs.Buckets.{Long, long-record, rescaled-le, count-other, threshold-other}
+use Rattle.rules.proofs.Buckets.{count-recorded, threshold-recorded, raw-recorded}
 use Rattle.rules.proofs.Steps.{step-skipped, step-again, step-first, within-limit-histogram}
 use Rattle.rules.proofs.Fresh.{fresh-long, fresh-count, fresh-threshold, fresh-raw}
 
@@ -27,7 +30,8 @@ pub record Clean (n start references t : ℕ) (g : Histogram) : Type 0 where
   pub count-high : (j : ℕ) → j < n → countAt j g ≤ oneReference * references
   pub raw-high : rawTo n g ≤ oneReference * references
 
-pub clean-fresh : (s : Settings) (t : Tables) → Long (needed (s .buckets)) (t .histogram) → 0 < s .start → Clean (needed (s .buckets)) (s .start) 0 (s .start) (freshTables s t .histogram)
+pub clean-fresh : (s : Settings) (t : Tables) → Long (needed (s .buckets)) (t .histogram) → 0 < s .start
+    → Clean (needed (s .buckets)) (s .start) 0 (s .start) (freshTables s t .histogram)
 clean-fresh s t l p = record {
   long = fresh-long s t l;
   at-least-one = λ j h. rw (fresh-threshold s t l j h) p;
@@ -98,7 +102,10 @@ module _ (hash : ℕ → ℕ) (limit : ℕ) (f : Profile) (far : (d : ℕ) → f
       (λ e. let p : 0 < s .threshold = omega (arith, ltb-true (hash x) (s .threshold) e) in
       cases (has x (s .live))
       (λ m. rw (step-again hash limit f x s e m)
-      (clean-record (needed (f .buckets)) start references (s .threshold) (s .histogram) c p o _ (bucket-needed f far (s .threshold) (some (length (upto x (s .live))))) (s .threshold) (omega arith)))
+      (clean-record (needed (f .buckets)) start references (s .threshold) (s .histogram) c p o _
+      (bucket-needed f far (s .threshold) (some (length (upto x (s .live))))) (s .threshold) (omega arith)))
       (λ m. rw (step-first hash limit f x s e m, within-limit-histogram hash limit (s .threshold) (x ∷ s .live))
-      (clean-record (needed (f .buckets)) start references (s .threshold) (s .histogram) c p o _ (bucket-needed f far (s .threshold) none) _ (settled-low hash limit (s .threshold) (x ∷ s .live) _))))
-      (λ e. rw (step-skipped hash limit f x s e) (clean-later (needed (f .buckets)) start references (s .threshold) (s .histogram) c (s .threshold) (omega arith)))
+      (clean-record (needed (f .buckets)) start references (s .threshold) (s .histogram) c p o _ (bucket-needed f far (s .threshold) none) _
+      (settled-low hash limit (s .threshold) (x ∷ s .live) _))))
+      (λ e. rw (step-skipped hash limit f x s e)
+      (clean-later (needed (f .buckets)) start references (s .threshold) (s .histogram) c (s .threshold) (omega arith)))

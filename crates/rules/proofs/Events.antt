@@ -1,4 +1,5 @@
--- Laws of reading and writing: which case it is, and what holds of any reading. Assumes nothing.
+-- Laws of reading and writing: which case it is, and what holds of any reading. `by-kind` goes by the first byte; `by-reading` shows a thing of
+-- every reading by that byte and by whether all of the event's bytes are there. Assumes nothing.
 use Prim.Native.Nat.{ℕ, _≤_, _<_}
 use mathlib.Core.Path.{_≡_, refl, sym, ap, _∙_}
 use mathlib.Core.Bool.{true, cond}
@@ -49,7 +50,8 @@ pub read-kind : (k : ℕ) (s : List ℕ) → (length s ≡ 0 → ⊥) → getD s
 unfolding readOf
 read-kind k s any is = simp (ne-eqb _ _ any, is)
 
-pub read-other : (s : List ℕ) → (length s ≡ 0 → ⊥) → (getD s 0 0 ≡ 1 → ⊥) → (getD s 0 0 ≡ 2 → ⊥) → (getD s 0 0 ≡ 3 → ⊥) → (getD s 0 0 ≡ 4 → ⊥) → readOf s ≡ refused 8
+pub read-other : (s : List ℕ) → (length s ≡ 0 → ⊥) → (getD s 0 0 ≡ 1 → ⊥) → (getD s 0 0 ≡ 2 → ⊥) → (getD s 0 0 ≡ 3 → ⊥) → (getD s 0 0 ≡ 4 → ⊥)
+    → readOf s ≡ refused 8
 read-other s any a b c d = by-kind (getD s 0 0) (λ e. absurd (a e)) (λ e. absurd (b e)) (λ e. absurd (c e)) (λ e. absurd (d e))
     (λ u. read-kind (getD s 0 0) s any refl ∙ simp u)
 
@@ -116,11 +118,13 @@ module _ (e : Event) (buffer : List ℕ) where
       rw puts (write-fits h)
 
   -- and a buffer in which they are put, with their number answered, is what writing leaves
-  pub write-done : {n : ℕ} {after : List ℕ} → n ≡ eventLength e → n ≤ length buffer → after ≡ sets buffer 0 (eventBytes e) → outcome (writtenResult (written.Filled n)) after ≡ writeOf e buffer
+  pub write-done : {n : ℕ} {after : List ℕ} → n ≡ eventLength e → n ≤ length buffer → after ≡ sets buffer 0 (eventBytes e)
+      → outcome (writtenResult (written.Filled n)) after ≡ writeOf e buffer
   write-done size fits put = rw (size, put) (sym (write-puts (rw size at fits)))
 
   -- where something was filled it is the event, over the front of the buffer
-  pub write-filled : (n : ℕ) (after : List ℕ) → outcome (writtenResult (written.Filled n)) after ≡ writeOf e buffer → (n ≡ eventLength e) × (after ≡ over (eventBytes e) buffer)
+  pub write-filled : (n : ℕ) (after : List ℕ) → outcome (writtenResult (written.Filled n)) after ≡ writeOf e buffer
+      → (n ≡ eventLength e) × (after ≡ over (eventBytes e) buffer)
   write-filled n after w = cases (ltb (length buffer) (eventLength e))
       (λ h. absurd (not-both (ap (λ z. z .result) (w ∙ write-short (ltb-true _ _ h))) refl))
       (λ h. let k = w ∙ write-fits (ltb-false _ _ h) in ((let q = ap (λ z. z .result) k in cc), ap (λ z. z .left) k))

@@ -1,4 +1,5 @@
--- What a fresh start leaves in the bucket tables. Assumes nothing.
+-- What a fresh start leaves in the bucket tables. Each is one value, repeated over the front of what was lent, so that every bucket reads as
+-- that value; the raw counts' sum is 0 by induction. Assumes nothing.
 use Prim.Native.Nat.{ℕ, zero, suc, _≤_, _<_}
 use mathlib.Core.Path.{_≡_, refl, _∙_}
 use mathlib.Core.List.{List}

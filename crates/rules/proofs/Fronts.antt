@@ -1,4 +1,5 @@
--- Reading looks only at the bytes that it takes. Assumes nothing.
+-- Reading looks only at the bytes that it takes. By the cases of a reading (`by-reading`): the first byte, the test of the length and each
+-- number of the event come out the same of any bytes that begin alike. A refusal goes by the kind of event. Assumes nothing.
 use Prim.Native.Nat.{ℕ, zero, suc, _+_, _≤_, _<_}
 use mathlib.Core.Path.{_≡_, refl, sym, ap, _∙_}
 use mathlib.Core.Bool.{false}
@@ -53,7 +54,8 @@ module _ (s t : List ℕ) where
   read-same h =
       rw h at (by-reading Same s (λ n. tt)
       (λ k l e. kind-same 9 l e 1 (omega arith) k ∙ simp (all-there 9 l e, number-same 9 l e 8 1 (omega arith)))
-      (λ k l e. kind-same 13 l e 2 (omega arith) k ∙ simp (all-there 13 l e, number-same 13 l e 8 1 (omega arith), number-same 13 l e 4 9 (omega arith)))
+      (λ k l e. kind-same 13 l e 2 (omega arith) k
+      ∙ simp (all-there 13 l e, number-same 13 l e 8 1 (omega arith), number-same 13 l e 4 9 (omega arith)))
       (λ k l e. kind-same 1 l e 3 (omega arith) k ∙ simp (all-there 1 l e))
       (λ k l e. kind-same 18 l e 4 (omega arith) k
       ∙ simp (
@@ -80,7 +82,8 @@ whole-refused n e s {m} is = cases (ltb (length s) n)
     (λ h. ((let q = simp h at is in cc), ltb-true _ _ h))
     (λ h. absurd (not-both {a = record { event = e; taken = n }} is (simp h)))
 
-kind-refused : {C : Type 0} (k : ℕ) (s : List ℕ) {m : ℕ} → ofKind k s ≡ refused m → ((m ≡ 7) × (length s < 18) → C) → (m ≡ 8 → ((t : List ℕ) → ofKind k t ≡ refused 8) → C) → C
+kind-refused : {C : Type 0} (k : ℕ) (s : List ℕ) {m : ℕ} → ofKind k s ≡ refused m → ((m ≡ 7) × (length s < 18) → C)
+    → (m ≡ 8 → ((t : List ℕ) → ofKind k t ≡ refused 8) → C) → C
 kind-refused {C} k s {m} is short other = by-kind k
     (λ e. too-few 9 _ (omega arith) (rw e at is))
     (λ e. too-few 13 _ (omega arith) (rw e at is))

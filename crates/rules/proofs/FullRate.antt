@@ -1,4 +1,6 @@
--- Demand 2 at full rate over one reference: the histogram stays the least-recently-used caches', for any profile whose buckets are cut where its point sizes say. Assumes nothing.
+-- Demand 2 at full rate over one reference: the histogram stays the least-recently-used caches', for any profile whose buckets are cut where its
+-- point sizes say. Within the limit the threshold is still `fullRate` and the live list the whole recency list. So no count is rescaled, the
+-- distance is the true one, and its bucket lies below point k just where the cache of that point's size hits. Assumes nothing.
 use Prim.Native.Nat.{ℕ, zero, suc, _+_, _*_, _/_, _^_, _≤_, _<_}
 use mathlib.Core.Path.{_≡_, refl, sym, ap, ap₂, _∙_}
 use mathlib.Core.Bool.{Bool, true}
@@ -65,7 +67,8 @@ pub record Exact (f : Profile) (hit : ℕ → ℕ) (references : ℕ) (g : Histo
   pub total : rawTo (needed (f .buckets)) g ≡ oneReference * references
 
 -- a report under fullRate then sums the raw counts
-pub exact-report : (f : Profile) (hit : ℕ → ℕ) (m : ℕ) (g : Histogram) → Exact f hit m g → (n : ℕ) → n ≤ needed (f .buckets) → sumTo fullRate n g ≡ rawTo n g
+pub exact-report : (f : Profile) (hit : ℕ → ℕ) (m : ℕ) (g : Histogram) → Exact f hit m g → (n : ℕ) → n ≤ needed (f .buckets)
+    → sumTo fullRate n g ≡ rawTo n g
 unfolding sumTo rawTo
 exact-report f hit m g e zero l = refl
 exact-report f hit m g e (suc n) l =
@@ -76,13 +79,15 @@ module _ (f : Profile) (hit : ℕ → ℕ) (m : ℕ) (g : Histogram) (e : Exact 
   raw-more : (n : ℕ) → rawTo n (recordIn fullRate j g) ≡ oneReference * oneIf (ltb j n) + rawTo n g
   raw-more n =
       let c : j < length (g .counts) = omega (arith, e .long .counts-long) in
-      let q : rescaled fullRate (countAt j g) (thresholdAt j g) ≡ countAt j g = ap (rescaled fullRate (countAt j g)) (e .flat j b) ∙ mul-div-cancel (countAt j g) {n = fullRate} (lit< tt) in
+      let q : rescaled fullRate (countAt j g) (thresholdAt j g) ≡ countAt j g =
+      ap (rescaled fullRate (countAt j g)) (e .flat j b) ∙ mul-div-cancel (countAt j g) {n = fullRate} (lit< tt) in
       cases (ltb j n)
       (λ l. rw l (omega (arith, raw-recorded fullRate j g c n (ltb-true j n l))))
       (λ l. rw l (omega (arith, raw-before fullRate j g n (ltb-false j n l))))
 
   -- one more reference, into bucket j: the buckets below k are where the caches of size k hit
-  pub exact-record : (now : ℕ → Bool) → ((k : ℕ) → k ≤ f .buckets → now (f .size k) ≡ ltb j k) → Exact f (λ n. oneIf (now n) + hit n) (suc m) (recordIn fullRate j g)
+  pub exact-record : (now : ℕ → Bool) → ((k : ℕ) → k ≤ f .buckets → now (f .size k) ≡ ltb j k)
+      → Exact f (λ n. oneIf (now n) + hit n) (suc m) (recordIn fullRate j g)
   exact-record now q = record {
     long = long-record fullRate j g (needed (f .buckets)) (e .long);
     flat = λ i l. cases (eqb i j)
@@ -105,18 +110,20 @@ module _ (hash : ℕ → ℕ) (all : (y : ℕ) → hash y < fullRate) where
       (λ e. absurd (omega (arith, g .none-above fullRate (ltb-true t fullRate e) (omega arith), different-all past)))
       (λ e. omega (arith, ltb-false t fullRate e, g .atMost))
 
-  module _ (limit : ℕ) (f : Profile) (c : Cut f) (x : ℕ) (past : List ℕ) (s : Sample) (k : Tracked hash limit fullRate past s) (n : length (recency past) ≤ limit) where
+  module _ (limit : ℕ) (f : Profile) (c : Cut f) (x : ℕ) (past : List ℕ) (s : Sample) (tracked : Tracked hash limit fullRate past s)
+      (n : length (recency past) ≤ limit) where
     still : s .threshold ≡ fullRate
-    still = threshold-stays limit past (s .threshold) (k .threshold-is) n
+    still = threshold-stays limit past (s .threshold) (tracked .threshold-is) n
 
     live-all : s .live ≡ recency past
-    live-all = k .live-is ∙ ap (λ t. keep (under hash t) (recency past)) still ∙ keep-all (under hash fullRate) under-all (recency past)
+    live-all = tracked .live-is ∙ ap (λ t. keep (under hash t) (recency past)) still ∙ keep-all (under hash fullRate) under-all (recency past)
 
     sampled-here : under hash (s .threshold) x ≡ true
     sampled-here = ap (λ t. under hash t x) still ∙ under-all x
 
     -- one reference keeps the histogram the caches'
-    pub exact-step : (m : ℕ) → Exact f (λ n. hits n past) m (s .histogram) → Exact f (λ n. hits n (x ∷ past)) (suc m) (step hash limit f x s .left .histogram)
+    pub exact-step : (m : ℕ) → Exact f (λ n. hits n past) m (s .histogram)
+        → Exact f (λ n. hits n (x ∷ past)) (suc m) (step hash limit f x s .left .histogram)
     exact-step m e = cases (has x past)
         (λ w.
         let d : ℕ = length (recency (upto x past)) in
@@ -127,6 +134,10 @@ module _ (hash : ℕ → ℕ) (all : (y : ℕ) → hash y < fullRate) where
         (exact-record f (λ n. hits n past) m (s .histogram) e (f .bucketOf d) (omega (arith, c .far d)) (λ n. has x (cached n past))
         (λ k l. hit-is (f .size k) x past ∙ rw w (sym (c .cut d k l)))))
         (λ w.
-        rw (step-first hash limit f x s sampled-here (ap (has x) live-all ∙ has-recency x past ∙ w), within-limit-histogram hash limit (s .threshold) (x ∷ s .live), still)
+        rw (
+          step-first hash limit f x s sampled-here (ap (has x) live-all ∙ has-recency x past ∙ w),
+          within-limit-histogram hash limit (s .threshold) (x ∷ s .live),
+          still,
+        )
         (exact-record f (λ n. hits n past) m (s .histogram) e (f .buckets + 1) (omega arith) (λ n. has x (cached n past))
         (λ k l. hit-is (f .size k) x past ∙ rw w (sym (le-ltb (f .buckets + 1) k (omega arith))))))

@@ -1,4 +1,5 @@
--- Laws of a history's recency list. Assumes nothing.
+-- Laws of a history's recency list, by induction on the history. A reference puts its location in front and takes it out of the rest, which is a
+-- `keep`: the laws of `Lists` do each step. Assumes nothing.
 use Prim.Native.Nat.{ℕ, _≤_}
 use mathlib.Core.Path.{_≡_, refl, ap, _∙_}
 use mathlib.Core.Bool.{Bool, true, false, not}
@@ -16,7 +17,8 @@ recency-once (x ∷ past) = (has-without x (recency past), once-keep (λ y. not 
 
 pub has-recency : (x : ℕ) (past : List ℕ) → has x (recency past) ≡ has x past
 has-recency x [] = refl
-has-recency x (y ∷ past) = cases (eqb x y) (λ e. rw e) (λ e. rw e (has-keep (λ z. not (eqb y z)) x (differ x y e) (recency past) ∙ has-recency x past))
+has-recency x (y ∷ past) =
+    cases (eqb x y) (λ e. rw e) (λ e. rw e (has-keep (λ z. not (eqb y z)) x (differ x y e) (recency past) ∙ has-recency x past))
 
 -- what stands before x in the recency list is the recency list of what came after x's previous reference
 pub upto-recency : (x : ℕ) (past : List ℕ) → upto x (recency past) ≡ recency (upto x past)

@@ -1,4 +1,4 @@
--- Laws of the list functions. Assumes nothing.
+-- Laws of the list functions, each by induction on the list, and by cases on whether its first entry passes the test. Assumes nothing.
 use Prim.Native.Nat.{ℕ, suc, _≤_}
 use mathlib.Core.Path.{_≡_, refl, sym, ap, subst}
 use mathlib.Core.Bool.{Bool, true, false, not, cond}

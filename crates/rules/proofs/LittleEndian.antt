@@ -1,4 +1,5 @@
--- Numbers as bytes, little-endian: laws over the width. Assumes nothing.
+-- Numbers as bytes, little-endian: laws over the width, by induction on it. The first byte is the remainder by 256, and those behind it are the
+-- quotient's. Assumes nothing.
 use Prim.Native.Nat.{ℕ, zero, suc, _+_, _*_, _/_, _%_, _^_, _≤_, _<_}
 use mathlib.Core.Path.{_≡_, refl, sym, ap, _∙_}
 use mathlib.Core.List.{List, [], _∷_, _++_}
@@ -13,7 +14,8 @@ use Rattle.rules.specs.Events.{bytesOf, numberAt, Bytes}
 pub number-two : (m n at : ℕ) (s : List ℕ) → numberAt (m + n) at s ≡ numberAt m at s + 256 ^ m * numberAt n (at + m) s
 number-two zero n at s = rw (zero-add n, add-zero at) (omega arith)
 number-two (suc m) n at s =
-    let ih : numberAt (m + n) (suc at) s ≡ numberAt m (suc at) s + 256 ^ m * numberAt n (suc (at + m)) s = rw (← suc-add at m) (number-two m n (suc at) s) in
+    let ih : numberAt (m + n) (suc at) s ≡ numberAt m (suc at) s + 256 ^ m * numberAt n (suc (at + m)) s =
+    rw (← suc-add at m) (number-two m n (suc at) s) in
     rw (suc-add m n, add-suc at m, pow-suc 256 m) (omega arith)
 
 bytes-join : (m n low high : ℕ) → low < 256 ^ m → bytesOf (m + n) (low + 256 ^ m * high) ≡ bytesOf m low ++ bytesOf n high
@@ -35,7 +37,8 @@ pub sets-append : (l a b : List ℕ) (at : ℕ) → sets (sets l at a) (at + len
 sets-append l [] b at = rw add-zero
 sets-append l (x ∷ a) b at = rw (add-suc, ← suc-add at (length a)) (sets-append (set l at x) a b (suc at))
 
-pub puts-two : (m n at x : ℕ) (l : List ℕ) → sets (sets l at (bytesOf m (x % 256 ^ m))) (at + m) (bytesOf n (x / 256 ^ m)) ≡ sets l at (bytesOf (m + n) x)
+pub puts-two : (m n at x : ℕ) (l : List ℕ)
+    → sets (sets l at (bytesOf m (x % 256 ^ m))) (at + m) (bytesOf n (x / 256 ^ m)) ≡ sets l at (bytesOf (m + n) x)
 puts-two m n at x l =
     let low = x % 256 ^ m in
     let high = x / 256 ^ m in
@@ -77,4 +80,5 @@ module _ (s : List ℕ) (b : Bytes s) where
       let below : first < 256 = b at in
       let low : (first + 256 * more) % 256 ≡ first = omega arith in
       let high : (first + 256 * more) / 256 ≡ more = omega arith in
-      rw (low, high, add-suc at n, ← suc-add at n, drop-cons s at 0 (omega arith)) (ap (λ (l : List ℕ). first ∷ l) (bytes-number n (suc at) (omega arith)))
+      rw (low, high, add-suc at n, ← suc-add at n, drop-cons s at 0 (omega arith))
+      (ap (λ (l : List ℕ). first ∷ l) (bytes-number n (suc at) (omega arith)))

@@ -1,4 +1,4 @@
--- Laws of any order of refusals. Assumes nothing.
+-- Laws of any order of refusals, by induction on the order: its first condition holds, or the rest decides. Assumes nothing.
 use Prim.Native.Nat.{ℕ, zero, suc}
 use mathlib.Core.Path.{_≡_, refl, subst}
 use mathlib.Core.List.{List, [], _∷_}
@@ -42,13 +42,14 @@ pub leaves-was : {A S : Type 0} (order : List Judged) (a : A) (was after : S) (n
 leaves-was order a was after n e = either order (λ w. absurd (not-both e (says-given order a w))) (λ i f. leaves-first i order was after f)
 
 -- what holds between two states before, and after, holds between what two calls leave that judge alike
-pub leaves-both : {S : Type 0} (P : S → S → Type 0) (order order' : List Judged) (was after was' after' : S) → order ≡ order' → P was was' → P after after'
+pub leaves-both : {S : Type 0} (P : S → S → Type 0) (order order' : List Judged) (was after was' after' : S)
+    → order ≡ order' → P was was' → P after after'
     → P (leaves order was after) (leaves order' was' after')
-leaves-both P order order' was after was' after' e p q = subst (λ l. P (leaves order was after) (leaves l was' after')) e (by order)
+leaves-both P order order' was after was' after' e p q = subst (λ l. P (leaves order was after) (leaves l was' after')) e (in-one-order order)
   where
-    by : (l : List Judged) → P (leaves l was after) (leaves l was' after')
-    by [] = q
-    by (j ∷ l) = cases (j .holds) (λ h. rw h p) (λ h. rw h (by l))
+    in-one-order : (l : List Judged) → P (leaves l was after) (leaves l was' after')
+    in-one-order [] = q
+    in-one-order (j ∷ l) = cases (j .holds) (λ h. rw h p) (λ h. rw h (in-one-order l))
 
 -- no refusal is numbered 0
 pub says-some : {A : Type 0} (order : List Judged) (a : A) → says order a ≡ refused 0 → ⊥

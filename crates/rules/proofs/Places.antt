@@ -1,4 +1,5 @@
--- Places in the live list. Assumes nothing.
+-- Places in the live list. The first place of x is the number of entries before it, by induction on the list; a move to the front takes x out
+-- there. Assumes nothing.
 use Prim.Native.Nat.{ℕ, zero, suc, _+_, _≤_, _<_}
 use mathlib.Core.Path.{_≡_, refl, sym, ap, _∙_}
 use mathlib.Core.Bool.{true, false, cond}
@@ -25,7 +26,9 @@ unfolding firstFrom
 place-from i x [] = refl
 place-from i x (y ∷ l) = cases (eqb x y)
     (λ e. simp (eqb-swap x y, e) (ap some (let q : i ≡ i + 0 = omega arith in q)))
-    (λ e. simp (eqb-swap x y, e) (place-from (suc i) x l ∙ ap (λ n. cond (has x l) (some n) none) (let q : suc i + length (upto x l) ≡ i + suc (length (upto x l)) = omega arith in q)))
+    (λ e. simp (eqb-swap x y, e)
+    (place-from (suc i) x l
+    ∙ ap (λ n. cond (has x l) (some n) none) (let q : suc i + length (upto x l) ≡ i + suc (length (upto x l)) = omega arith in q)))
 
 pub place-in : (x : ℕ) (l : List ℕ) → has x l ≡ true → firstPlace x l ≡ some (length (upto x l))
 place-in x l e = place-from 0 x l ∙ rw e (ap some (let q : 0 + length (upto x l) ≡ length (upto x l) = omega arith in q))
@@ -63,7 +66,8 @@ cut (x ∷ xs) (suc n) (suc d) h k = ap (λ (l : List ℕ). x ∷ l) (cut xs n d
 
 pub front-over : (x d n : ℕ) (xs : List ℕ) → d < n → n ≤ length xs → toFront d x xs ≡ over (toFront d x (take n xs)) xs
 front-over x d n xs h k =
-    let m : length (toFront d x (take n xs)) ≡ n = front-length d x (take n xs) (rw length-take (omega arith)) ∙ length-take n xs ∙ (let q : _ ≡ n = omega arith in q) in
+    let m : length (toFront d x (take n xs)) ≡ n =
+    front-length d x (take n xs) (rw length-take (omega arith)) ∙ length-take n xs ∙ (let q : _ ≡ n = omega arith in q) in
     ap (λ (l : List ℕ). x ∷ l) (sym (cut xs n d h k)) ∙ ap (λ (j : ℕ). toFront d x (take n xs) ++ drop j xs) (sym m)
 
 -- a new location in front of the first n of a table, and what stood after them

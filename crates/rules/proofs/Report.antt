@@ -1,4 +1,4 @@
--- The report's sums. Assumes nothing.
+-- The report's sums, by induction on the number of buckets: where no bucket is torn, none counts for more than its raw count. Assumes nothing.
 use Prim.Native.Nat.{ℕ, zero, suc, _*_, _≤_, _<_}
 use mathlib.Core.Path.{_≡_}
 use mathlib.Core.Logic.{⊎-elim}

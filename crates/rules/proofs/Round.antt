@@ -1,4 +1,5 @@
--- What was written is read back, with any bytes behind it. Assumes nothing.
+-- What was written is read back, with any bytes behind it, and what was read is written the same. By the kind of event, and each number in it by
+-- the laws of `LittleEndian` at its place. Assumes nothing.
 use Prim.Native.Nat.{ℕ, _+_, _≤_, _<_, _^_}
 use mathlib.Core.Path.{_≡_, refl, sym, _∙_}
 use mathlib.Core.Bool.{false}
@@ -77,7 +78,8 @@ back s b h =
     (λ k l. (tt, kind 3 k (omega arith) refl))
     (λ k l. (
       (below 4 1, below 4 5, below 4 9, below 4 13, below 1 17),
-      kind 4 k (omega arith) (put 4 1 (omega arith) (put 4 5 (omega arith) (put 4 9 (omega arith) (put 4 13 (omega arith) (put 1 17 (omega arith) refl))))),
+      kind 4 k (omega arith)
+          (put 4 1 (omega arith) (put 4 5 (omega arith) (put 4 9 (omega arith) (put 4 13 (omega arith) (put 1 17 (omega arith) refl))))),
     )))
   where
     below : (n at : ℕ) → numberAt n at s < 256 ^ n

@@ -1,4 +1,6 @@
--- Demand 3 over one reference: threshold, list and answer stay the history's. Assumes nothing.
+-- Demand 3 over one reference: threshold, list and answer stay the history's. By the cases of a reference: skipped, again, first. Where a first
+-- one overfills the list, the threshold falls to the largest hash in it: at least one entry leaves, and under any higher threshold all would
+-- stay. Assumes nothing.
 use Prim.Native.Nat.{ℕ, suc, _≤_, _<_}
 use mathlib.Core.Path.{_≡_, refl, sym, ap, subst, _∙_}
 use mathlib.Core.Bool.{true, false}
@@ -10,10 +12,12 @@ use lib.Dec.{ltb}
 use borrow.Author.Tests.{ltb-true, ltb-false, lt-ltb, le-ltb}
 use Rattle.rules.specs.Lists.{keep, has, upto, erase, without}
 use Rattle.rules.specs.Settings.{Histogram}
-use Rattle.rules.specs.Reference.{Sample, Profile, firstPlace, under, largest, keepBelow, lowered, recordIn, bucketFor, withinLimit, skipped, first, again, sampledStep, step}
+use Rattle.rules.specs.Reference.{Sample, Profile, firstPlace, under, largest, keepBelow, lowered, recordIn}
+use Rattle.rules.specs.Reference.{bucketFor, withinLimit, skipped, first, again, sampledStep, step}
 use Rattle.rules.specs.History.{recency, different, distance, Largest}
 use Rattle.rules.proofs.Tests.{cases}
-use Rattle.rules.proofs.Lists.{keep-keep, keep-length, keep-narrow, without-out, has-keep, Once, once-keep, erase-without, length-erase, upto-keep}
+use Rattle.rules.proofs.Lists.{keep-keep, keep-length, keep-narrow, without-out, has-keep}
+use Rattle.rules.proofs.Lists.{Once, once-keep, erase-without, length-erase, upto-keep}
 use Rattle.rules.proofs.Places.{place-in, place-out, front-erase}
 use Rattle.rules.proofs.History.{recency-once, has-recency, upto-recency, recent-in, recent-out, different-grows}
 
@@ -93,7 +97,8 @@ module _ (hash : ℕ → ℕ) (limit t : ℕ) (r : List ℕ) where
   low-above p n u a =
       let b : largest hash (keepBelow hash t r) < u = omega (arith, largest-below hash t r p) in
       let e : length (keepBelow hash u (keepBelow hash t r)) ≡ length (keepBelow hash t r) = ap length (largest-keep hash u (keepBelow hash t r) b) in
-      let g : length (keepBelow hash t (keepBelow hash u r)) ≡ length (keepBelow hash u (keepBelow hash t r)) = ap length (keep-keep (under hash t) (under hash u) r) in
+      let g : length (keepBelow hash t (keepBelow hash u r)) ≡ length (keepBelow hash u (keepBelow hash t r)) =
+      ap length (keep-keep (under hash t) (under hash u) r) in
       omega (arith, keep-length (under hash t) (keepBelow hash u r))
 
 -- ---- demand 3 of a sample, after a history since a fresh start
@@ -102,7 +107,8 @@ pub record Tracked (hash : ℕ → ℕ) (limit start : ℕ) (past : List ℕ) (s
   pub threshold-is : Largest hash limit start past (s .threshold)
   pub live-is : s .live ≡ keepBelow hash (s .threshold) (recency past)
 
-pub tracked-fresh : (hash : ℕ → ℕ) (limit start : ℕ) (g : Histogram) → Tracked hash limit start [] (record { threshold = start; live = []; histogram = g })
+pub tracked-fresh : (hash : ℕ → ℕ) (limit start : ℕ) (g : Histogram)
+    → Tracked hash limit start [] (record { threshold = start; live = []; histogram = g })
 tracked-fresh hash limit start g = record {
   threshold-is = record { atMost = omega arith; holds = omega arith; none-above = λ u a b. omega arith };
   live-is = refl;
@@ -126,45 +132,54 @@ module _ (hash : ℕ → ℕ) (limit start : ℕ) (x : ℕ) (past : List ℕ) wh
     none-above = λ u a c. low-above hash limit t (recency (x ∷ past)) p o u a;
   }
 
-  live-in : (t : ℕ) → under hash t x ≡ true → (live : List ℕ) → live ≡ keepBelow hash t (recency past) → x ∷ without x live ≡ keepBelow hash t (recency (x ∷ past))
+  live-in : (t : ℕ) → under hash t x ≡ true → (live : List ℕ) → live ≡ keepBelow hash t (recency past)
+      → x ∷ without x live ≡ keepBelow hash t (recency (x ∷ past))
   live-in t e live l = ap (λ r. x ∷ without x r) l ∙ sym (recent-in (under hash t) x past e)
 
-  module _ (s : Sample) (k : Tracked hash limit start past s) where
+  module _ (s : Sample) (tracked : Tracked hash limit start past s) where
     abbrev t : ℕ
     t = s .threshold
 
     tracked-skipped : under hash t x ≡ false → Tracked hash limit start (x ∷ past) s
     tracked-skipped e = record {
-      threshold-is = stays t (k .threshold-is) (rw (recent-out (under hash t) x past e) (k .threshold-is .holds));
-      live-is = k .live-is ∙ sym (recent-out (under hash t) x past e);
+      threshold-is = stays t (tracked .threshold-is) (rw (recent-out (under hash t) x past e) (tracked .threshold-is .holds));
+      live-is = tracked .live-is ∙ sym (recent-out (under hash t) x past e);
     }
 
     module _ (e : under hash t x ≡ true) (g : Histogram) where
-      tracked-again : has x (s .live) ≡ true → Tracked hash limit start (x ∷ past) (record { threshold = t; live = x ∷ erase x (s .live); histogram = g })
+      tracked-again : has x (s .live) ≡ true
+          → Tracked hash limit start (x ∷ past) (record { threshold = t; live = x ∷ erase x (s .live); histogram = g })
       tracked-again m =
-          let once : Once (s .live) = rw (k .live-is) (once-keep (under hash t) (recency past) (recency-once past)) in
-          let q : x ∷ erase x (s .live) ≡ keepBelow hash t (recency (x ∷ past)) = ap (λ r. x ∷ r) (erase-without x (s .live) once) ∙ live-in t e (s .live) (k .live-is) in
+          let once : Once (s .live) = rw (tracked .live-is) (once-keep (under hash t) (recency past) (recency-once past)) in
+          let q : x ∷ erase x (s .live) ≡ keepBelow hash t (recency (x ∷ past)) =
+          ap (λ r. x ∷ r) (erase-without x (s .live) once) ∙ live-in t e (s .live) (tracked .live-is) in
           record {
-            threshold-is = stays t (k .threshold-is) (rw (← q) (omega (arith, length-erase x (s .live) m, ap length (k .live-is), k .threshold-is .holds)));
+            threshold-is =
+                stays t (tracked .threshold-is)
+                (rw (← q) (omega (arith, length-erase x (s .live) m, ap length (tracked .live-is), tracked .threshold-is .holds)));
             live-is = q;
           }
 
       tracked-lowered : (l : List ℕ) → l ≡ keepBelow hash t (recency (x ∷ past)) → limit < length l → length l ≤ suc limit
           → Tracked hash limit start (x ∷ past) (record { threshold = lowered hash t l; live = keepBelow hash (lowered hash t l) l; histogram = g })
       tracked-lowered l q o r =
-          subst (λ z. Tracked hash limit start (x ∷ past) (record { threshold = lowered hash t z; live = keepBelow hash (lowered hash t z) z; histogram = g })) (sym q)
+          subst (λ z. Tracked hash limit start (x ∷ past)
+          (record { threshold = lowered hash t z; live = keepBelow hash (lowered hash t z) z; histogram = g })) (sym q)
           record {
-            threshold-is = unfold low in falls t (k .threshold-is .atMost) (omega (arith, ltb-true (hash x) t e)) (rw (← q) o) (rw (← q) r);
+            threshold-is = unfold low in falls t (tracked .threshold-is .atMost) (omega (arith, ltb-true (hash x) t e)) (rw (← q) o) (rw (← q) r);
             live-is = unfold low in low-list hash limit t (recency (x ∷ past));
           }
 
       tracked-first : has x (s .live) ≡ false → Tracked hash limit start (x ∷ past) (withinLimit hash limit t (x ∷ s .live) g)
       unfolding withinLimit
       tracked-first m =
-          let q : x ∷ s .live ≡ keepBelow hash t (recency (x ∷ past)) = ap (λ r. x ∷ r) (sym (without-out x (s .live) m)) ∙ live-in t e (s .live) (k .live-is) in
+          let q : x ∷ s .live ≡ keepBelow hash t (recency (x ∷ past)) =
+          ap (λ r. x ∷ r) (sym (without-out x (s .live) m)) ∙ live-in t e (s .live) (tracked .live-is) in
           cases (ltb limit (length (x ∷ s .live)))
-          (λ o. rw o (tracked-lowered (x ∷ s .live) q (ltb-true limit (length (x ∷ s .live)) o) (omega (arith, ap length (k .live-is), k .threshold-is .holds))))
-          (λ o. rw o record { threshold-is = stays t (k .threshold-is) (rw (← q) (ltb-false limit (length (x ∷ s .live)) o)); live-is = q })
+          (λ o. rw o
+          (tracked-lowered (x ∷ s .live) q (ltb-true limit (length (x ∷ s .live)) o)
+          (omega (arith, ap length (tracked .live-is), tracked .threshold-is .holds))))
+          (λ o. rw o record { threshold-is = stays t (tracked .threshold-is) (rw (← q) (ltb-false limit (length (x ∷ s .live)) o)); live-is = q })
 
     -- one reference keeps the threshold the largest, and the list the recency list below it
     pub tracked-step : (f : Profile) → Tracked hash limit start (x ∷ past) (step hash limit f x s .left)
@@ -179,13 +194,14 @@ module _ (hash : ℕ → ℕ) (limit start : ℕ) (x : ℕ) (past : List ℕ) wh
     replied-skipped f e = ap (λ z. z .reply) (step-skipped hash limit f x s e)
 
     live-has : under hash t x ≡ true → has x (s .live) ≡ has x past
-    live-has e = ap (has x) (k .live-is) ∙ has-keep (under hash t) x e (recency past) ∙ has-recency x past
+    live-has e = ap (has x) (tracked .live-is) ∙ has-keep (under hash t) x e (recency past) ∙ has-recency x past
 
     pub replied-first : (f : Profile) → under hash t x ≡ true → has x past ≡ false → step hash limit f x s .reply ≡ first
     replied-first f e n = ap (λ z. z .reply) (step-first hash limit f x s e (live-has e ∙ n))
 
-    pub replied-again : (f : Profile) → under hash t x ≡ true → has x past ≡ true → step hash limit f x s .reply ≡ again (distance (under hash t) x past)
+    pub replied-again : (f : Profile) → under hash t x ≡ true → has x past ≡ true
+        → step hash limit f x s .reply ≡ again (distance (under hash t) x past)
     replied-again f e n =
         let d : upto x (s .live) ≡ keep (under hash t) (recency (upto x past)) =
-        ap (upto x) (k .live-is) ∙ upto-keep (under hash t) x e (recency past) ∙ ap (keep (under hash t)) (upto-recency x past) in
+        ap (upto x) (tracked .live-is) ∙ upto-keep (under hash t) x e (recency past) ∙ ap (keep (under hash t)) (upto-recency x past) in
         ap (λ z. z .reply) (step-again hash limit f x s e (live-has e ∙ n)) ∙ ap (λ l. again (length l)) d

@@ -1,11 +1,12 @@
--- A list written over the front of a table, and the lent tables one by one. Assumes nothing.
+-- A list written over the front of a table, by induction on the two lists, and the lent tables one by one. Assumes nothing.
 use Prim.Native.Nat.{ℕ, zero, suc, _+_, _≤_, _<_, min}
 use mathlib.Core.Path.{_≡_, refl, sym, ap, _∙_}
 use mathlib.Core.Logic.{⊎-elim}
 use mathlib.Core.List.{List, [], _∷_, _++_}
 use native.Mathlib.Nat.{not-suc-le-zero, le-of-suc-le-suc, eq-or-lt-of-le}
 use native.Mathlib.Omega.{arith}
-use lib.ListN.{length, getD, take, drop, set, replicate, length-append, length-drop, length-set, length-replicate, replicate-append-replicate, take-append-drop}
+use lib.ListN.{length, getD, take, drop, set, replicate, length-append, length-drop}
+use lib.ListN.{length-set, length-replicate, replicate-append-replicate, take-append-drop}
 use lib.Seq.{take-all, length-take-le, take-at}
 use Rattle.rules.specs.Lists.{over}
 use Rattle.rules.specs.Settings.{Tables}
@@ -36,7 +37,8 @@ over-same n old h = rw (length-take-le n old h) (take-append-drop n old)
 pub over-over : (new mid old : List ℕ) → length mid ≤ length new → length new ≤ length old → over new (over mid old) ≡ over new old
 over-over new mid old h k = ap (λ (l : List ℕ). new ++ l) (rest new mid old h k)
   where
-    rest : (new mid old : List ℕ) → length mid ≤ length new → length new ≤ length old → drop (length new) (mid ++ drop (length mid) old) ≡ drop (length new) old
+    rest : (new mid old : List ℕ) → length mid ≤ length new → length new ≤ length old
+        → drop (length new) (mid ++ drop (length mid) old) ≡ drop (length new) old
     rest new [] old h k = refl
     rest [] (m ∷ mid) old h k = absurd (not-suc-le-zero h)
     rest (x ∷ new) (m ∷ mid) [] h k = absurd (not-suc-le-zero k)
@@ -44,7 +46,9 @@ over-over new mid old h k = ap (λ (l : List ℕ). new ++ l) (rest new mid old h
 
 -- the first i are all of the first n
 pub takes : (xs : List ℕ) (i n : ℕ) → i ≤ n → i ≤ length xs → min n (length xs) ≤ i → take i xs ≡ take n xs
-takes xs i n k l m = ⊎-elim (λ (e : i ≡ n). ap (λ (j : ℕ). take j xs) e) (λ (e : i < n). take-all i xs (omega arith) ∙ sym (take-all n xs (omega arith))) (eq-or-lt-of-le k)
+takes xs i n k l m =
+    ⊎-elim (λ (e : i ≡ n). ap (λ (j : ℕ). take j xs) e) (λ (e : i < n). take-all i xs (omega arith) ∙ sym (take-all n xs (omega arith)))
+    (eq-or-lt-of-le k)
 
 -- one more of the same, over the front of a table
 pub record Filled (v : ℕ) (xs now : List ℕ) (i : ℕ) : Type 0 where
@@ -63,5 +67,6 @@ fill-more v xs now i h f = record {
 }
 
 -- the same tables are the same one by one
-pub each-same : {t u : Tables} → t ≡ u → (t .locations ≡ u .locations) × (t .histogram .counts ≡ u .histogram .counts) × (t .histogram .thresholds ≡ u .histogram .thresholds)
+pub each-same : {t u : Tables} → t ≡ u
+    → (t .locations ≡ u .locations) × (t .histogram .counts ≡ u .histogram .counts) × (t .histogram .thresholds ≡ u .histogram .thresholds)
 each-same e = (ap (λ z. z .locations) e, ap (λ z. z .histogram .counts) e, ap (λ z. z .histogram .thresholds) e)

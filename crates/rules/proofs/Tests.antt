@@ -1,4 +1,4 @@
--- By cases on a test. Assumes nothing.
+-- Laws of tests, each by the cases true and false. Assumes nothing.
 use mathlib.Core.Path.{_≡_, refl}
 use mathlib.Core.Bool.{Bool, true, false, _||_, true≢false, false≢true}
 
@@ -12,11 +12,11 @@ pub clash {ℓ} : {C : Type ℓ} {b : Bool} → b ≡ true → b ≡ false → C
 clash e f = absurd (let z : true ≡ false = cc in true≢false z)
 
 pub neither : {a b : Bool} → a || b ≡ false → (a ≡ false) × (b ≡ false)
-neither {a} {b} = by a b
+neither {a} {b} = both-false a b
   where
-    by : (a b : Bool) → a || b ≡ false → (a ≡ false) × (b ≡ false)
-    by true b e = absurd (true≢false e)
-    by false b e = (refl, e)
+    both-false : (a b : Bool) → a || b ≡ false → (a ≡ false) × (b ≡ false)
+    both-false true b e = absurd (true≢false e)
+    both-false false b e = (refl, e)
 
 pub or-left : (a b : Bool) → a ≡ true → a || b ≡ true
 or-left true b e = refl

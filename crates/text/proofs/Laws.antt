@@ -1,4 +1,5 @@
--- Text in a buffer: what is put behind what was put, at the front of it, and a number's digits. Assumes nothing.
+-- Text in a buffer: what is put behind what was put, at the front of it, and a number's digits. Texts put one behind another add up
+-- (`adds-then`); that a number's digits are its decimal goes by induction on how many there are. Assumes nothing.
 use Prim.Native.Nat.{ℕ, zero, suc, _+_, _-_, _/_, _%_, _^_, _≤_, _<_}
 use mathlib.Core.Path.{_≡_, refl, sym, ap, _∙_}
 use mathlib.Core.Bool.{Bool, true, false, _||_}
@@ -52,7 +53,8 @@ over-all {before} {text} {after} {n} a =
     let count : n ≡ length text = omega (arith, a .ends) in
     sym (take-append-drop n after) ∙ ap (λ l. l ++ drop n after) (a .front) ∙ ap (λ l. text ++ l) (a .behind ∙ ap (λ m. drop m before) count)
 
-pub adds-front : {before text after : List ℕ} {n : ℕ} {lacking : Bool} → lacking ≡ false → Adds before 0 text after n → placed n after ≡ frontOr lacking text before
+pub adds-front : {before text after : List ℕ} {n : ℕ} {lacking : Bool} → lacking ≡ false → Adds before 0 text after n
+    → placed n after ≡ frontOr lacking text before
 adds-front {before} {text} {after} {n} room a =
     let count : n ≡ length text = omega (arith, a .ends) in
     rw room (λ i. placed (count i) (over-all a i))
@@ -70,7 +72,8 @@ room buffer counts e =
 -- ---- points
 
 -- a point that is answered has tables long enough
-pub point-needed : (kept : Record) (n : ℕ) (g : Histogram) {p : Point} → ownPoint kept n g ≡ gives p → kept .settings .buckets + 2 ≤ length (g .counts)
+pub point-needed : (kept : Record) (n : ℕ) (g : Histogram) {p : Point} → ownPoint kept n g ≡ gives p
+    → kept .settings .buckets + 2 ≤ length (g .counts)
 point-needed kept n g e = buckets-long (kept .settings) g (point-accepted kept (ownShape kept) n g e .buckets-long) .counts-long
 
 -- ---- numbers
@@ -92,7 +95,8 @@ spelled (suc m) (suc (suc k)) n f h =
     let high : 10 ^ suc k ≤ n = rw two at (f .2 (omega arith)) in
     let last : n % 10 < 10 = omega arith in
     rw (le-ltb n 10 (omega (arith, pow-suc 10 k, some k)), lt-ltb (n % 10) 10 last)
-    (ap (λ l. l ++ ((48 + n % 10) ∷ [])) (spelled m (suc k) (n / 10) (omega arith, omega (arith, pow-suc 10 (suc k)), λ z. rw one (omega (arith, pow-suc 10 k))) (omega arith)))
+    (ap (λ l. l ++ ((48 + n % 10) ∷ []))
+    (spelled m (suc k) (n / 10) (omega arith, omega (arith, pow-suc 10 (suc k)), λ z. rw one (omega (arith, pow-suc 10 k))) (omega arith)))
 
 -- 64 bits have at most 20 digits
 few : (k n : ℕ) → n < 2 ^ 64 → Fewest 10 1 n k → k ≤ 20

@@ -1,4 +1,4 @@
--- The record and its words are one another's, and what is given and what is refused as words. Assumes nothing.
+-- The record and its words are one another's, word by word: each of the nine computes. Assumes nothing.
 use Prim.Native.Nat.{ℕ, zero, suc, _<_}
 use native.Mathlib.Omega.{arith}
 use mathlib.Core.Path.{_≡_, refl, sym}

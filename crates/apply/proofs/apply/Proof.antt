@@ -1,7 +1,27 @@
+-- By the call that the event asks for: none, a reference, a restart or a setup, each by its law in `Applying`.
 use Rattle.apply.proofs.Applying.{apply-nothing, apply-reference, apply-restart, apply-setup}
 use borrow.Author.Needs.{needs}
 use Rattle.apply.proofs.apply.Statement.{statement}
 use Rattle.apply.proofs.apply.Tie as tie
+
+-- the places that a return looks back to: where the event's call was made, and where it was found which call that is
+abbrev referred : tie.After-taken → tie.After-refer
+referred c = c .before .before .before .before .before .before .before
+
+abbrev restarted : tie.After-started-over → tie.After-restart
+restarted c = c .before .before .before .before .before
+
+abbrev set-up : tie.After-started-over2 → tie.After-setup
+set-up c = c .before .before .before .before .before
+
+abbrev refer-asked : tie.After-refer → tie.After-call-of
+refer-asked d = d .before .before .before .before .before .before .before
+
+abbrev restart-asked : tie.After-restart → tie.After-call-of
+restart-asked d = d .before .before .before .before .before .before
+
+abbrev setup-asked : tie.After-setup → tie.After-call-of
+setup-asked d = d .before .before .before .before .before .before .before
 
 call-of-requires : tie.Need-call-of-requires
 call-of-requires c κs = search needs
@@ -49,7 +69,10 @@ same-length-3 : tie.Need-same-length-3
 same-length-3 c = search needs
 
 returns-2 : tie.Need-returns-2
-returns-2 c = rw (c .taken .ensures) (apply-reference _ _ (c .before .before .before .before .before .before .before .before .before .before .before .before .before .before .call-of .result) (c .before .before .before .before .before .before .before .before .before .before .before .before .before .before .call-of .ensures) _ _ _ _ (c .before .before .before .before .before .before .before .refer .result) (c .before .before .before .before .before .before .before .before .before .before .before .before .location .given .1) (c .before .before .before .before .before .before .before .refer .ensures))
+returns-2 c =
+    rw (c .taken .ensures)
+    (apply-reference _ _ (refer-asked (referred c) .call-of .result) (refer-asked (referred c) .call-of .ensures) _ _ _ _
+    (referred c .refer .result) (referred c .before .before .before .before .before .location .given .1) (referred c .refer .ensures))
 
 same-length-4 : tie.Need-same-length-4
 same-length-4 c = search needs
@@ -61,7 +84,10 @@ same-length-6 : tie.Need-same-length-6
 same-length-6 c = search needs
 
 returns-3 : tie.Need-returns-3
-returns-3 c = rw (c .started-over .ensures) (apply-restart _ _ (c .before .before .before .before .before .before .before .before .before .before .before .call-of .result) (c .before .before .before .before .before .before .before .before .before .before .before .call-of .ensures) _ _ _ (c .before .before .before .before .before .restart .result) (c .before .before .before .before .before .before .before .before .before .enum-told2 .given .1) (c .before .before .before .before .before .restart .ensures))
+returns-3 c =
+    rw (c .started-over .ensures)
+    (apply-restart _ _ (restart-asked (restarted c) .call-of .result) (restart-asked (restarted c) .call-of .ensures) _ _ _
+    (restarted c .restart .result) (restarted c .before .before .before .before .enum-told2 .given .1) (restarted c .restart .ensures))
 
 same-length-7 : tie.Need-same-length-7
 same-length-7 c = search needs
@@ -73,7 +99,10 @@ same-length-9 : tie.Need-same-length-9
 same-length-9 c = search needs
 
 returns-4 : tie.Need-returns-4
-returns-4 c = rw (c .started-over2 .ensures) (apply-setup _ _ (c .before .before .before .before .before .before .before .before .before .before .before .before .call-of .result) (c .before .before .before .before .before .before .before .before .before .before .before .before .call-of .ensures) _ _ _ _ (c .before .before .before .before .before .setup .result) (c .before .before .before .before .before .before .before .before .before .before .settings .given .1) (c .before .before .before .before .before .setup .ensures))
+returns-4 c =
+    rw (c .started-over2 .ensures)
+    (apply-setup _ _ (setup-asked (set-up c) .call-of .result) (setup-asked (set-up c) .call-of .ensures) _ _ _ _
+    (set-up c .setup .result) (set-up c .before .before .before .before .before .settings .given .1) (set-up c .setup .ensures))
 
 pub apply-spec : {M : Type 1} → statement M
 apply-spec =

@@ -1,3 +1,4 @@
+-- By the kind of event, and a span by whether it has bytes; each case computes.
 use borrow.Author.Tests.{eq-eqb, ne-eqb}
 use borrow.Author.Needs.{needs}
 use Rattle.apply.proofs.call_of.Statement.{statement}

@@ -1,3 +1,4 @@
+-- By the answer; each case computes.
 use borrow.Author.Needs.{needs}
 use Rattle.apply.proofs.taken.Statement.{statement}
 use Rattle.apply.proofs.taken.Tie as tie

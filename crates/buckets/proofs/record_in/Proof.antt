@@ -1,4 +1,5 @@
--- One reference recorded, or nothing changed.
+-- One reference recorded, or nothing changed: each test is one of the rule's. Past them the bucket is not torn (`known`), so that no product or
+-- sum overflows.
 use mathlib.Core.Path.{sym, _∙_}
 use native.Mathlib.Omega.{arith}
 use borrow.Author.Tests.{le-leb, lt-leb}
@@ -9,8 +10,12 @@ use borrow.Author.Needs.{needs}
 use Rattle.buckets.proofs.record_in.Statement.{statement}
 use Rattle.buckets.proofs.record_in.Tie as tie
 
+abbrev start : tie.Else3 → tie.Start
+start c = c .before .before .before .before .before .before .before .before
+
 -- the bucket that is recorded in is not torn
-known : (c : tie.Else3) → (let a = c .before .before .before .before .before .before .before .before .args in Sound (a .references) (a .threshold) (getD (a .counts .now) (a .at) 0) (getD (a .thresholds .now) (a .at) 0))
+known : (c : tie.Else3) → (let a = start c .args in
+    Sound (a .references) (a .threshold) (getD (a .counts .now) (a .at) 0) (getD (a .thresholds .now) (a .at) 0))
 known c = sound _ _ _ _ (sym (c .before .torn .ensures) ∙ c .if3 .left)
 
 returns : tie.Need-returns
@@ -38,19 +43,25 @@ torn-requires c κs = search needs
 
 returns-3 : tie.Need-returns-3
 unfolding recordedOf unrecordable
-returns-3 c = rw (lt-leb _ _ (c .before .before .before .before .before .if1 .left), lt-leb _ _ (c .before .before .before .before .if2 .left), ← c .before .torn .ensures, c .if3 .taken)
+returns-3 c =
+    rw (
+      lt-leb _ _ (c .before .before .before .before .before .if1 .left),
+      lt-leb _ _ (c .before .before .before .before .if2 .left),
+      ← c .before .torn .ensures,
+      c .if3 .taken,
+    )
 
 cast-b : tie.Need-cast-b
 cast-b c = omega (arith, known c .under)
 
 mul-counts : tie.Need-mul-counts
-mul-counts c = record { fits = product-fits (known c) (c .before .before .before .before .before .before .before .before .fits .references .fits) }
+mul-counts c = record { fits = product-fits (known c) (start c .fits .references .fits) }
 
 div-counts : tie.Need-div-counts
 div-counts c = omega (arith, known c .some)
 
 add-counts : tie.Need-add-counts
-add-counts c = omega (arith, sound-rescaled (known c), known c .counted, c .before .before .before .before .before .before .before .before .fits .references .fits)
+add-counts c = omega (arith, sound-rescaled (known c), known c .counted, start c .fits .references .fits)
 
 mul-counts-2 : tie.Need-mul-counts-2
 mul-counts-2 c = search needs
@@ -75,7 +86,13 @@ same-length-2 c = search needs
 
 returns-4 : tie.Need-returns-4
 unfolding recordedOf unrecordable
-returns-4 c = rw (lt-leb _ _ (c .before .before .before .before .before .if1 .left), lt-leb _ _ (c .before .before .before .before .if2 .left), ← c .before .torn .ensures, c .if3 .left)
+returns-4 c =
+    rw (
+      lt-leb _ _ (c .before .before .before .before .before .if1 .left),
+      lt-leb _ _ (c .before .before .before .before .if2 .left),
+      ← c .before .torn .ensures,
+      c .if3 .left,
+    )
 
 pub record-in-spec : {M : Type 1} → statement M
 record-in-spec =

@@ -1,4 +1,4 @@
--- The report: the sums to the point, and on from there.
+-- The report: the sums to the point, and on from there. What is torn in either part is torn in the whole.
 use native.Mathlib.Omega.{arith}
 use borrow.Author.Needs.{needs}
 use borrow.Author.Tests.{lt-ltb, le-ltb}
@@ -29,8 +29,9 @@ enum-told c = search needs
 
 returns-3 : tie.Need-returns-3
 returns-3 c =
-    let l = c .before .before .before in
-    report-torn _ _ _ _ _ (l .before .before .if1 .left) (l .before .if2 .left) (torn-more _ _ _ _ _ (omega arith) (rw (c .enum-told .given .1) at (c .before .before .add-up .ensures)))
+    let middle = c .before .before .before in
+    report-torn _ _ _ _ _ (middle .before .before .if1 .left) (middle .before .if2 .left)
+    (torn-more _ _ _ _ _ (omega arith) (rw (c .enum-told .given .1) at (c .before .before .add-up .ensures)))
 
 add-up-requires-2 : tie.Need-add-up-requires-2
 add-up-requires-2 c κs = (omega arith, omega arith, omega arith, rw (c .before .hits .given .1) at (c .before .before .before .add-up .ensures))
@@ -43,15 +44,16 @@ enum-told-2 c = search needs
 
 returns-4 : tie.Need-returns-4
 returns-4 c =
-    let l = c .before .before .before .before .before .before .before in
-    report-torn _ _ _ _ _ (l .before .before .if1 .left) (l .before .if2 .left) (rw (c .enum-told2 .given .1) at (c .before .before .add-up2 .ensures))
+    let middle = c .before .before .before .before .before .before .before in
+    report-torn _ _ _ _ _ (middle .before .before .if1 .left) (middle .before .if2 .left)
+    (rw (c .enum-told2 .given .1) at (c .before .before .add-up2 .ensures))
 
 returns-5 : tie.Need-returns-5
 returns-5 c =
-    let m = c .before .before .before .before .before in
-    let l = m .before .before .before in
-    report-whole _ _ _ _ _ (l .before .before .if1 .left) (l .before .if2 .left) (l .lesser .ensures)
-    (rw (m .hits .given .1) at (m .before .before .add-up .ensures))
+    let hits = c .before .before .before .before .before in
+    let middle = hits .before .before .before in
+    report-whole _ _ _ _ _ (middle .before .before .if1 .left) (middle .before .if2 .left) (middle .lesser .ensures)
+    (rw (hits .hits .given .1) at (hits .before .before .add-up .ensures))
     (rw (c .before .total .given .1) at (c .before .before .before .add-up2 .ensures))
 
 pub report-spec : {M : Type 1} → statement M

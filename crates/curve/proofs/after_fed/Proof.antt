@@ -1,3 +1,4 @@
+-- Where feeding ended with a refusal, its line is printed; else less than an event is left, and it is moved to the front.
 use native.Mathlib.Omega.{arith}
 use lib.ListN.{take, length-drop}
 use lib.Seq.{length-take-le}
@@ -5,6 +6,9 @@ use Rattle.curve.proofs.Input.{no-refusal, a-refusal, refused-stands, r
 use borrow.Author.Needs.{needs}
 use Rattle.curve.proofs.after_fed.Statement.{statement}
 use Rattle.curve.proofs.after_fed.Tie as tie
+
+abbrev start : tie.After-refusal-in → tie.Start
+start d = d .before .before .before
 
 refusal-in-requires : tie.Need-refusal-in-requires
 refusal-in-requires c κs = tt
@@ -22,7 +26,10 @@ same-length : tie.Need-same-length
 same-length c = c .before .before .put-refused-line .kept .0
 
 returns : tie.Need-returns
-returns c = λ first t w. reached-refused w (a-refusal (c .before .before .before .before .before .before .before .before .before .before .args .fed .ending) (c .before .before .before .before .before .before .before .refusal-in .ensures) (c .before .before .before .before .if1 .taken)) (refused-stands (c .before .before .before .before .before .before .before .before .before .before .args .buffer .now) _ _ _ _ (omega (arith, c .before .before .before .before .before .before .before .before .before .before .pre)) (c .before .before .put-refused-line .ensures))
+returns c = λ first t w.
+    let d = c .before .before .before .before .before .before .before in
+    reached-refused w (a-refusal (start d .args .fed .ending) (d .refusal-in .ensures) (c .before .before .before .before .if1 .taken))
+    (refused-stands (start d .args .buffer .now) _ _ _ _ (omega (arith, start d .pre)) (c .before .before .put-refused-line .ensures))
 
 to-front-requires : tie.Need-to-front-requires
 to-front-requires c κs = search needs
@@ -32,12 +39,20 @@ same-length-2 c = c .before .before .to-front .kept .0
 
 returns-2 : tie.Need-returns-2
 returns-2 c = λ first t w.
-    let start = c .before .before .before .before .before .before .before .before .before .before in
+    let d = c .before .before .before .before .before .before .before in
+    let args = start d .args in
     let moved = c .before .before .to-front in
-    let f = reached-follows w (no-refusal (start .args .fed .ending) (c .before .before .before .before .before .before .before .refusal-in .ensures) (λ z. omega (arith, z, c .before .before .before .before .if1))) in
-    let some = length-drop (start .args .fed .taken) (take (start .args .end) (start .args .buffer .now)) in
-    let all = length-take-le (start .args .end) (start .args .buffer .now) (omega (arith, start .pre)) in
-    (record { short = omega (arith, follows-short _ _ _ _ f, some, all, moved .ensures .0); falls = omega arith; counted = omega (arith, start .pre) }, rw (moved .ensures .1) f)
+    let f = reached-follows w
+    (no-refusal (args .fed .ending) (d .refusal-in .ensures) (λ z. omega (arith, z, c .before .before .before .before .if1))) in
+    let some = length-drop (args .fed .taken) (take (args .end) (args .buffer .now)) in
+    let all = length-take-le (args .end) (args .buffer .now) (omega (arith, start d .pre)) in (
+      record {
+        short = omega (arith, follows-short _ _ _ _ f, some, all, moved .ensures .0);
+        falls = omega arith;
+        counted = omega (arith, start d .pre);
+      },
+      rw (moved .ensures .1) f,
+    )
 
 pub after-fed-spec : {M : Type 1} → statement M
 after-fed-spec =

@@ -1,3 +1,5 @@
+-- The loop keeps `Follows`: what stands at the front of the buffer is what is left of the input so far. Each turn is one read, and `reach` falls
+-- in each.
 use borrow.Author.Needs.{needs}
 use native.Mathlib.Omega.{arith}
 use Prim.Native.Nat.{_+_, _<_, _^_}
@@ -19,6 +21,16 @@ abbrev μ-loop : tie.MeasureT-loop
 μ-loop buffer₀ locations₀ counts₀ thresholds₀ p₀ buffer locations counts thresholds p =
     p .reach
 
+-- the places that the end of a turn looks back to: where it read, the turn's head, and the function's start
+abbrev start : tie.At-loop Inv-loop μ-loop → tie.Start Inv-loop μ-loop
+start turn = turn .before .before .before .before .before
+
+abbrev turn : tie.After-one-read Inv-loop μ-loop → tie.At-loop Inv-loop μ-loop
+turn d = d .before .before .before .before .before .before .before .before
+
+abbrev was-read : tie.After-known-told2 Inv-loop μ-loop → tie.After-one-read Inv-loop μ-loop
+was-read c = c .before .before .before .before .before .before .before .before .before .before .before
+
 loop-holds : tie.Need-loop-holds Inv-loop μ-loop
 loop-holds c = (c .before .before .before .before .pre .0, refl, refl, refl, omega arith, omega arith, follows-none _)
 
@@ -27,44 +39,61 @@ sub-p c = search needs
 
 one-read-requires : tie.Need-one-read-requires Inv-loop μ-loop
 one-read-requires c κs =
-    let head = c .before .before .before .before .before .before .before .loop in
-    (record { short = head .inv .4; far = omega (arith, c .before .before .before .before .before .if1); counted = omega (arith, c .before .before .before .before .before .if1, head .inv .5) }, head .inv .0, omega (arith, head .inv .2, c .before .before .before .before .before .before .before .before .before .before .before .before .pre .1))
+    let turn = c .before .before .before .before .before .before .before in
+    let far = c .before .before .before .before .before .if1 in (
+      record { short = turn .loop .inv .4; far = omega (arith, far); counted = omega (arith, far, turn .loop .inv .5) },
+      turn .loop .inv .0,
+      omega (arith, turn .loop .inv .2, start turn .pre .1),
+    )
 
 enum-known-next : tie.Need-enum-known-next Inv-loop μ-loop
 enum-known-next c = search needs
 
 loop-less : tie.Need-loop-less Inv-loop μ-loop
 loop-less c =
-    let led = rw (c .before .next .given .1) at (c .before .before .before .before .before .before .before .before .before .before .before .one-read .ensures _ (c .before .before .before .before .before .before .before .before .before .before .before .before .before .before .before .before .before .before .before .loop .inv .6)) in
-    omega (arith, led .0 .falls, c .before .before .before .before .before .before .before .before .before .before .before .before .before .before .before .before .before .if1)
+    let d = c .before .before .before .before .before .before .before .before .before .before .before in
+    let head = d .before .before .before .before .before .before .before .before .loop in
+    let led = rw (c .before .next .given .1) at (d .one-read .ensures _ (head .inv .6)) in
+    omega (arith, led .0 .falls, d .before .before .before .before .before .before .if1)
 
 loop-again : tie.Need-loop-again Inv-loop μ-loop
 loop-again c =
-    let head = c .before .before .before .before .before .before .before .before .before .before .before .before .before .before .before .before .before .before .before .loop in
-    let same = c .before .before .before .before .before .before .before .before .before .before .before .one-read .kept in
-    let led = rw (c .before .next .given .1) at (c .before .before .before .before .before .before .before .before .before .before .before .one-read .ensures _ (head .inv .6)) in
-    (same .1 .0 ∙ head .inv .0, same .1 .1 .0 ∙ head .inv .1, same .1 .1 .1 .0 ∙ head .inv .2, same .1 .1 .1 .1 .0 ∙ head .inv .3, led .0 .short, led .0 .counted, led .1)
+    let d = c .before .before .before .before .before .before .before .before .before .before .before in
+    let head = d .before .before .before .before .before .before .before .before .loop in
+    let same = d .one-read .kept in
+    let led = rw (c .before .next .given .1) at (d .one-read .ensures _ (head .inv .6)) in (
+      same .1 .0 ∙ head .inv .0,
+      same .1 .1 .0 ∙ head .inv .1,
+      same .1 .1 .1 .0 ∙ head .inv .2,
+      same .1 .1 .1 .1 .0 ∙ head .inv .3,
+      led .0 .short,
+      led .0 .counted,
+      led .1,
+    )
 
 enum-known-done : tie.Need-enum-known-done Inv-loop μ-loop
 enum-known-done c = search needs
 
 same-length : tie.Need-same-length Inv-loop μ-loop
-same-length c = c .before .before .before .before .before .before .before .before .before .before .before .one-read .kept .1 .0 ∙ c .before .before .before .before .before .before .before .before .before .before .before .before .before .before .before .before .before .before .before .loop .inv .0 ∙ sym (c .before .before .before .before .before .before .before .before .before .before .before .before .before .before .before .before .before .before .before .before .before .before .before .before .pre .0)
+same-length c = let d = was-read c in d .one-read .kept .1 .0 ∙ turn d .loop .inv .0 ∙ sym (start (turn d) .pre .0)
 
 same-length-2 : tie.Need-same-length-2 Inv-loop μ-loop
-same-length-2 c = c .before .before .before .before .before .before .before .before .before .before .before .one-read .kept .1 .1 .0 ∙ c .before .before .before .before .before .before .before .before .before .before .before .before .before .before .before .before .before .before .before .loop .inv .1
+same-length-2 c = let d = was-read c in d .one-read .kept .1 .1 .0 ∙ turn d .loop .inv .1
 
 same-length-3 : tie.Need-same-length-3 Inv-loop μ-loop
-same-length-3 c = c .before .before .before .before .before .before .before .before .before .before .before .one-read .kept .1 .1 .1 .0 ∙ c .before .before .before .before .before .before .before .before .before .before .before .before .before .before .before .before .before .before .before .loop .inv .2
+same-length-3 c = let d = was-read c in d .one-read .kept .1 .1 .1 .0 ∙ turn d .loop .inv .2
 
 same-length-4 : tie.Need-same-length-4 Inv-loop μ-loop
-same-length-4 c = c .before .before .before .before .before .before .before .before .before .before .before .one-read .kept .1 .1 .1 .1 .0 ∙ c .before .before .before .before .before .before .before .before .before .before .before .before .before .before .before .before .before .before .before .loop .inv .3
+same-length-4 c = let d = was-read c in d .one-read .kept .1 .1 .1 .1 .0 ∙ turn d .loop .inv .3
 
 returns : tie.Need-returns Inv-loop μ-loop
-returns c = rw (c .before .done .given .1) at (c .before .before .before .before .before .before .before .before .before .before .before .one-read .ensures _ (c .before .before .before .before .before .before .before .before .before .before .before .before .before .before .before .before .before .before .before .loop .inv .6))
+returns c =
+    let d = c .before .before .before .before .before .before .before .before .before .before .before in
+    let head = d .before .before .before .before .before .before .before .before .loop in
+    rw (c .before .done .given .1) at (d .one-read .ensures _ (head .inv .6))
 
 same-length-5 : tie.Need-same-length-5 Inv-loop μ-loop
-same-length-5 c = c .before .before .loop .inv .0 ∙ sym (c .before .before .before .before .before .before .before .pre .0)
+same-length-5 c = let turn = c .before .before in turn .loop .inv .0 ∙ sym (start turn .pre .0)
 
 same-length-6 : tie.Need-same-length-6 Inv-loop μ-loop
 same-length-6 c = c .before .before .loop .inv .1

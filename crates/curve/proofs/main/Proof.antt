@@ -1,3 +1,4 @@
+-- The tables have the lengths that `run` asks for, and what it tells of is what `tell` asks for.
 use mathlib.Core.Path.{refl}
 use borrow.Author.Needs.{needs}
 use Rattle.curve.proofs.main.Statement.{statement}

@@ -1,3 +1,4 @@
+-- Bytes that are left over make the line of a refusal, no bytes the curve; the buffer has room for either.
 use Rattle.rules.specs.Layout.{bucketsOf}
 use native.Mathlib.Omega.{arith}
 use borrow.Author.Tests.{lt-ltb, le-ltb}
@@ -12,7 +13,10 @@ same-length : tie.Need-same-length
 same-length c = c .before .before .put-refused-line .kept .0
 
 returns : tie.Need-returns
-returns c = rw (lt-ltb 0 _ (c .before .before .before .before .if1 .taken)) (refused-stands (c .before .before .before .before .before .before .before .before .args .out .now) _ _ 7 _ (omega (arith, c .before .before .before .before .before .before .before .before .pre .1)) (c .before .before .put-refused-line .ensures))
+returns c =
+    let start = c .before .before .before .before .before .before .before .before in
+    rw (lt-ltb 0 _ (c .before .before .before .before .if1 .taken))
+    (refused-stands (start .args .out .now) _ _ 7 _ (omega (arith, start .pre .1)) (c .before .before .put-refused-line .ensures))
 
 put-curve-requires : tie.Need-put-curve-requires
 put-curve-requires c κs = tt
@@ -21,7 +25,11 @@ same-length-2 : tie.Need-same-length-2
 same-length-2 c = c .before .before .put-curve .kept .0
 
 returns-2 : tie.Need-returns-2
-returns-2 c = rw (le-ltb 0 _ (c .before .before .before .before .if1 .left)) (curve-stands (c .before .before .before .before .before .before .before .before .args .out .now) _ _ (c .before .before .before .before .before .before .before .before .args .kept) (bucketsOf (c .before .before .before .before .before .before .before .before .args .counts .now) (c .before .before .before .before .before .before .before .before .args .thresholds .now)) (c .before .before .before .before .before .before .before .before .pre .1) (c .before .before .before .before .before .before .before .before .pre .0) (c .before .before .put-curve .ensures))
+returns-2 c =
+    let start = c .before .before .before .before .before .before .before .before in
+    rw (le-ltb 0 _ (c .before .before .before .before .if1 .left))
+    (curve-stands (start .args .out .now) _ _ (start .args .kept) (bucketsOf (start .args .counts .now) (start .args .thresholds .now))
+    (start .pre .1) (start .pre .0) (c .before .before .put-curve .ensures))
 
 pub put-end-spec : {M : Type 1} → statement M
 put-end-spec =

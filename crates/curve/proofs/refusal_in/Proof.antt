@@ -1,3 +1,4 @@
+-- By the cases of the ending.
 use borrow.Author.Needs.{needs}
 use Rattle.curve.proofs.refusal_in.Statement.{statement}
 use Rattle.curve.proofs.refusal_in.Tie as tie

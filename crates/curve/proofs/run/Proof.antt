@@ -1,9 +1,23 @@
+-- Setup is accepted, and the rest is `follow`'s; or it is refused, and its line is the text.
 use mathlib.Core.Path.{refl, _∙_}
 use native.Mathlib.Omega.{arith}
 use Rattle.curve.proofs.Input.{refused-stands, telling-started, telling-refused}
 use borrow.Author.Needs.{needs}
 use Rattle.curve.proofs.run.Statement.{statement}
 use Rattle.curve.proofs.run.Tie as tie
+
+-- the places that a return looks back to: where `follow` was called, where `setup` was, and the function's start
+abbrev start : tie.After-setup → tie.Start
+start d = d .before .before .before .before .before .before .before .before .before
+
+abbrev begun : tie.After-follow → tie.After-setup
+begun d = d .before .before .before .before .before .before .before .before .before .before .before .before
+
+abbrev was-followed : tie.After-slice-known10 → tie.After-follow
+was-followed c = c .before .before .before .before .before .before .before .before
+
+abbrev was-refused : tie.After-slice-known11 → tie.After-setup
+was-refused c = c .before .before .before .before .before .before .before .before .before .before .before .before
 
 first-settings-requires : tie.Need-first-settings-requires
 first-settings-requires c κs = tt
@@ -15,7 +29,9 @@ enum-known-kept : tie.Need-enum-known-kept
 enum-known-kept c = search needs
 
 follow-requires : tie.Need-follow-requires
-follow-requires c κs = (c .before .before .before .before .before .before .before .before .before .before .before .before .before .before .before .before .before .before .before .before .pre .0, omega (arith, c .before .before .before .before .before .before .before .before .before .before .before .setup .kept .1 .1 .0, c .before .before .before .before .before .before .before .before .before .before .before .before .before .before .before .before .before .before .before .before .pre .1))
+follow-requires c κs =
+    let d = c .before .before .before .before .before .before .before .before .before .before .before in
+    (start d .pre .0, omega (arith, d .setup .kept .1 .1 .0, start d .pre .1))
 
 enum-known-why : tie.Need-enum-known-why
 enum-known-why c = search needs
@@ -27,19 +43,25 @@ put-refused-line-requires : tie.Need-put-refused-line-requires
 put-refused-line-requires c κs = tt
 
 same-length : tie.Need-same-length
-same-length c = c .before .before .before .before .before .before .before .before .follow .kept .1 .0
+same-length c = was-followed c .follow .kept .1 .0
 
 same-length-2 : tie.Need-same-length-2
-same-length-2 c = c .before .before .before .before .before .before .before .before .follow .kept .1 .1 .0
+same-length-2 c = was-followed c .follow .kept .1 .1 .0
 
 same-length-3 : tie.Need-same-length-3
-same-length-3 c = c .before .before .before .before .before .before .before .before .follow .kept .1 .1 .1 .0 ∙ c .before .before .before .before .before .before .before .before .before .before .before .before .before .before .before .before .before .before .before .before .setup .kept .1 .1 .0
+same-length-3 c = let d = was-followed c in d .follow .kept .1 .1 .1 .0 ∙ begun d .setup .kept .1 .1 .0
 
 same-length-4 : tie.Need-same-length-4
-same-length-4 c = c .before .before .before .before .before .before .before .before .follow .kept .1 .1 .1 .1 .0 ∙ c .before .before .before .before .before .before .before .before .before .before .before .before .before .before .before .before .before .before .before .before .setup .kept .1 .1 .1 .0
+same-length-4 c = let d = was-followed c in d .follow .kept .1 .1 .1 .1 .0 ∙ begun d .setup .kept .1 .1 .1 .0
 
 returns : tie.Need-returns
-returns c = telling-started _ _ _ (c .before .before .before .before .before .before .before .before .follow .result) (c .before .before .before .before .before .before .before .before .follow .last .1 .0) (rw (c .before .before .before .before .before .before .before .before .before .before .before .before .before .before .kept .given .1, c .before .before .before .before .before .before .before .before .before .before .before .before .before .before .before .before .before .before .before .before .before .before .before .before .first-settings .ensures) at (c .before .before .before .before .before .before .before .before .before .before .before .before .before .before .before .before .before .before .before .before .setup .ensures)) (c .before .before .before .before .before .before .before .before .follow .ensures)
+returns c =
+    let done = c .before .before .before .before .before .before .before .before in
+    let ready = done .before .before .before .before .before .before in
+    let d = ready .before .before .before .before .before .before in
+    let first = d .before .before .before .before .first-settings in
+    telling-started _ _ _ (done .follow .result) (done .follow .last .1 .0)
+    (rw (ready .kept .given .1, first .ensures) at (d .setup .ensures)) (done .follow .ensures)
 
 same-length-5 : tie.Need-same-length-5
 same-length-5 c = c .before .before .put-refused-line .kept .0
@@ -48,15 +70,20 @@ same-length-6 : tie.Need-same-length-6
 same-length-6 c = refl
 
 same-length-7 : tie.Need-same-length-7
-same-length-7 c = c .before .before .before .before .before .before .before .before .before .before .before .before .setup .kept .1 .1 .0
+same-length-7 c = was-refused c .setup .kept .1 .1 .0
 
 same-length-8 : tie.Need-same-length-8
-same-length-8 c = c .before .before .before .before .before .before .before .before .before .before .before .before .setup .kept .1 .1 .1 .0
+same-length-8 c = was-refused c .setup .kept .1 .1 .1 .0
 
 returns-2 : tie.Need-returns-2
 returns-2 c =
+    let refused = c .before .before .before .before .before .before in
+    let d = refused .before .before .before .before .before .before in
+    let first = d .before .before .before .before .first-settings in
     let number = c .before .before .before .number-of .ensures in
-    telling-refused _ _ _ (rw (c .before .before .before .before .before .before .why .given .1, c .before .before .before .before .before .before .before .before .before .before .before .before .before .before .before .before .first-settings .ensures) at (c .before .before .before .before .before .before .before .before .before .before .before .before .setup .ensures)) (rw number at (refused-stands (c .before .before .before .before .before .before .before .before .before .before .before .before .before .before .before .before .before .before .before .before .before .args .buffer .now) _ _ _ _ (omega (arith, c .before .before .before .before .before .before .before .before .before .before .before .before .before .before .before .before .before .before .before .before .before .pre .0)) (c .before .before .put-refused-line .ensures)))
+    telling-refused _ _ _ (rw (refused .why .given .1, first .ensures) at (d .setup .ensures))
+    (rw number at
+    (refused-stands (start d .args .buffer .now) _ _ _ _ (omega (arith, start d .pre .0)) (c .before .before .put-refused-line .ensures)))
 
 pub run-spec : {M : Type 1} → statement M
 run-spec =

@@ -1,3 +1,4 @@
+-- What is written lies within the buffer, since the text that `done` tells of stands there; the other cases write fixed messages.
 use mathlib.Core.Path.{refl, sym}
 use lib.Seq.{length-take-le}
 use borrow.Author.Needs.{needs}
@@ -8,7 +9,8 @@ enum-known-done : tie.Need-enum-known-done
 enum-known-done c = search needs
 
 slice-aggregate-write-all : tie.Need-slice-aggregate-write-all
-slice-aggregate-write-all c = sym (length-take-le _ _ ((rw (c .before .before .done .given .1) at (c .before .before .before .before .before .pre)) .stands .fits))
+slice-aggregate-write-all c =
+    sym (length-take-le _ _ ((rw (c .before .before .done .given .1) at (c .before .before .before .before .before .pre)) .stands .fits))
 
 write-all-requires : tie.Need-write-all-requires
 write-all-requires c κs = tt

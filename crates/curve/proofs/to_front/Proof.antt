@@ -1,3 +1,4 @@
+-- The loop keeps `Moved`: the first i bytes are those from the place on, and behind them nothing has changed.
 use borrow.Author.Needs.{needs}
 use native.Mathlib.Omega.{arith}
 use Prim.Native.Nat.{_+_, _-_, _≤_}
@@ -48,8 +49,11 @@ returns c =
     let head = c .before .loop in
     let start = c .before .before .args in
     let all : head .i ≡ start .end - start .from = omega arith in
-    let whole : start .from + (start .end - start .from) ≡ start .end = omega (arith, c .before .before .pre) in
-    (refl, (rw all at (head .inv .1 .front)) ∙ sym (drop-take (start .from) (start .end - start .from) (start .buffer .now)) ∙ ap (λ n. drop (start .from) (take n (start .buffer .now))) whole)
+    let whole : start .from + (start .end - start .from) ≡ start .end = omega (arith, c .before .before .pre) in (
+      refl,
+      (rw all at (head .inv .1 .front)) ∙ sym (drop-take (start .from) (start .end - start .from) (start .buffer .now))
+          ∙ ap (λ n. drop (start .from) (take n (start .buffer .now))) whole,
+    )
 
 pub to-front-spec : {M : Type 1} → statement M
 to-front-spec =

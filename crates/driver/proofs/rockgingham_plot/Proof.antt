@@ -1,3 +1,4 @@
+-- The record is the words' own, so the call is `plot_point` of it; what is left follows by `gave`.
 use Rattle.words.specs.Words.{plotWords}
 use Rattle.driver.proofs.Laws.{gave}
 use Rattle.driver.proofs.rockgingham_plot.Statement.{statement}
@@ -19,7 +20,11 @@ number-plotted-requires : tie.Need-number-plotted-requires
 number-plotted-requires c κs = tt
 
 returns : tie.Need-returns
-returns c = gave plotWords _ (rw (c .before .before .before .before .record-of .ensures, c .before .before .before .before .before .before .shape-from .ensures) at (c .before .before .before .plot-point .ensures)) (c .number-plotted .ensures) (c .before .plot-words .ensures)
+returns c =
+    gave plotWords _
+    (rw (c .before .before .before .before .record-of .ensures, c .before .before .before .before .before .before .shape-from .ensures) at
+    (c .before .before .before .plot-point .ensures))
+    (c .number-plotted .ensures) (c .before .plot-words .ensures)
 
 pub rockgingham-plot-spec : {M : Type 1} → statement M
 rockgingham-plot-spec =

@@ -1,3 +1,4 @@
+-- The record is the words' own, so the call is `point` of it; what is left follows by `gave`.
 use Rattle.words.specs.Words.{pointWords}
 use Rattle.driver.proofs.Laws.{gave}
 use Rattle.driver.proofs.rockgingham_point.Statement.{statement}
@@ -19,7 +20,11 @@ number-pointed-requires : tie.Need-number-pointed-requires
 number-pointed-requires c κs = tt
 
 returns : tie.Need-returns
-returns c = gave pointWords _ (rw (c .before .before .before .before .record-of .ensures, c .before .before .before .before .before .before .shape-from .ensures) at (c .before .before .before .point .ensures)) (c .number-pointed .ensures) (c .before .point-words .ensures)
+returns c =
+    gave pointWords _
+    (rw (c .before .before .before .before .record-of .ensures, c .before .before .before .before .before .before .shape-from .ensures) at
+    (c .before .before .before .point .ensures))
+    (c .number-pointed .ensures) (c .before .point-words .ensures)
 
 pub rockgingham-point-spec : {M : Type 1} → statement M
 rockgingham-point-spec =

@@ -1,3 +1,4 @@
+-- By what `read` answered: an event, whose words are given, or a refusal, which leaves the words as they were.
 use mathlib.Core.Path.{sym, ap, _∙_}
 use Rattle.rules.specs.Answers.{readingResult}
 use Rattle.words.specs.Words.{eventWords}
@@ -22,10 +23,14 @@ number-of-requires : tie.Need-number-of-requires
 number-of-requires c κs = tt
 
 returns : tie.Need-returns
-returns c = given-into eventWords _ _ (sym (c .before .before .before .before .read .ensures) ∙ ap readingResult (c .before .before .e .given .1)) (c .event-words .ensures)
+returns c =
+    given-into eventWords _ _ (sym (c .before .before .before .before .read .ensures) ∙ ap readingResult (c .before .before .e .given .1))
+    (c .event-words .ensures)
 
 returns-2 : tie.Need-returns-2
-returns-2 c = refused-into eventWords _ _ (sym (c .before .before .before .before .read .ensures) ∙ ap readingResult (c .before .before .why .given .1)) (c .number-of .ensures)
+returns-2 c =
+    refused-into eventWords _ _ (sym (c .before .before .before .before .read .ensures) ∙ ap readingResult (c .before .before .why .given .1))
+    (c .number-of .ensures)
 
 pub rockgingham-read-spec : {M : Type 1} → statement M
 rockgingham-read-spec =

@@ -1,6 +1,11 @@
+-- The record is the words' own, so the call is `restart` of it; what is left follows by `began`.
 use Rattle.driver.proofs.Laws.{began}
 use Rattle.driver.proofs.rockgingham_restart.Statement.{statement}
 use Rattle.driver.proofs.rockgingham_restart.Tie as tie
+
+-- where `restart` was called
+abbrev called : tie.After-number-started → tie.After-restart
+called c = c .before .before .before .before .before .before .before
 
 record-of-requires : tie.Need-record-of-requires
 record-of-requires c κs = tt
@@ -15,13 +20,16 @@ number-started-requires : tie.Need-number-started-requires
 number-started-requires c κs = tt
 
 same-length : tie.Need-same-length
-same-length c = c .before .before .before .before .before .before .before .restart .kept .1 .1 .0
+same-length c = called c .restart .kept .1 .1 .0
 
 same-length-2 : tie.Need-same-length-2
-same-length-2 c = c .before .before .before .before .before .before .before .restart .kept .1 .1 .1 .0
+same-length-2 c = called c .restart .kept .1 .1 .1 .0
 
 returns : tie.Need-returns
-returns c = began _ (rw (c .before .before .before .before .before .before .before .before .before .before .record-of .ensures) at (c .before .before .before .before .before .before .before .restart .ensures)) (c .number-started .ensures) (c .before .started-words .ensures)
+returns c =
+    began _ (rw (called c .before .before .before .record-of .ensures) at
+    (c .before .before .before .before .before .before .before .restart .ensures)) (c .number-started .ensures)
+    (c .before .started-words .ensures)
 
 pub rockgingham-restart-spec : {M : Type 1} → statement M
 rockgingham-restart-spec =

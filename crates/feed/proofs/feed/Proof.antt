@@ -1,6 +1,9 @@
+-- The loop keeps `Going`: so many bytes are taken, and what they left is fed the rest. Each turn is one event, and where the loop stops the
+-- definition stops.
 use borrow.Author.Needs.{needs}
 use native.Mathlib.Omega.{arith}
-use Prim.Native.Nat.{_-_, _≤_, _<_}
+use mathlib.Core.List.{List}
+use Prim.Native.Nat.{ℕ, _-_, _≤_, _<_}
 use mathlib.Core.Path.{_≡_, refl, sym, ap, _∙_}
 use lib.ListN.{length, drop}
 use denote.Ref.{now}
@@ -21,21 +24,41 @@ abbrev μ-loop : tie.MeasureT-loop
 μ-loop bytes locations₀ counts₀ thresholds₀ at₀ kept₀ locations counts thresholds at kept =
     length bytes - at
 
--- what the call of `read` found at the place
-found : (d : tie.After-read Inv-loop μ-loop) → readingResult (d .read .result) ≡ readOf (drop (d .before .before .before .loop .at) (now (d .before .before .before .before .before .before .before .before .args .bytes)))
+-- the places that a later one looks back to: the turn of the loop, where its event was read, and where that event was applied
+abbrev known-bytes : tie.At-loop Inv-loop μ-loop → tie.After-shared-slice-known Inv-loop μ-loop
+known-bytes turn = turn .before .before .before .before
+
+abbrev turn-of : tie.After-read Inv-loop μ-loop → tie.At-loop Inv-loop μ-loop
+turn-of d = d .before .before .before
+
+abbrev event-applied : tie.After-apply Inv-loop μ-loop → tie.After-event Inv-loop μ-loop
+event-applied d = d .before .before .before .before .before
+
+abbrev apply-taken : tie.After-enum-told Inv-loop μ-loop → tie.After-apply Inv-loop μ-loop
+apply-taken c = c .before .before .before .before .before .before .before .before .before
+
+-- the bytes from this turn's place on
+abbrev rest : tie.At-loop Inv-loop μ-loop → List ℕ
+rest turn = drop (turn .loop .at) (now (known-bytes turn .before .args .bytes))
+
+-- what the call of `read` found there
+found : (d : tie.After-read Inv-loop μ-loop) → readingResult (d .read .result) ≡ readOf (rest (turn-of d))
 found d =
-    let bytes = now (d .before .before .before .before .before .before .before .before .args .bytes) in
-    let at = d .before .before .before .loop .at in
-    d .read .ensures ∙ ap readOf (from-place bytes at)
+    let turn = turn-of d in
+    d .read .ensures ∙ ap readOf (from-place (now (known-bytes turn .before .args .bytes)) (turn .loop .at))
 
-abbrev got : tie.After-event Inv-loop μ-loop → Got
-got d = record { event = d .event .given .0 .0; taken = d .event .given .0 .1 .0 }
+module _ (d : tie.After-event Inv-loop μ-loop) where
+  abbrev turn : tie.At-loop Inv-loop μ-loop
+  turn = turn-of (d .before .before)
 
-found-event : (d : tie.After-event Inv-loop μ-loop) → readOf (drop (d .before .before .before .before .before .loop .at) (now (d .before .before .before .before .before .before .before .before .before .before .args .bytes))) ≡ gives (got d)
-found-event d = sym (found (d .before .before)) ∙ ap readingResult (d .event .given .1)
+  abbrev got : Got
+  got = record { event = d .event .given .0 .0; taken = d .event .given .0 .1 .0 }
 
-on : (d : tie.After-event Inv-loop μ-loop) → (0 < d .event .given .0 .1 .0) × (d .event .given .0 .1 .0 ≤ length (now (d .before .before .before .before .before .before .before .before .before .before .args .bytes)) - d .before .before .before .before .before .loop .at)
-on d = ahead (d .before .before .before .before .before .loop .inv .3) (search needs) (got d) (found-event d)
+  found-event : readOf (rest turn) ≡ gives got
+  found-event = sym (found (d .before .before)) ∙ ap readingResult (d .event .given .1)
+
+  on : (0 < got .taken) × (got .taken ≤ length (now (known-bytes turn .before .args .bytes)) - turn .loop .at)
+  on = ahead (turn .loop .inv .3) (search needs) got found-event
 
 loop-holds : tie.Need-loop-holds Inv-loop μ-loop
 loop-holds c = (refl, refl, refl, going-none _ _)
@@ -72,23 +95,29 @@ same-length-3 c = search needs
 
 returns : tie.Need-returns Inv-loop μ-loop
 returns c =
-    let head = c .before .before .before .before .before .before .before .before .before .before .before .before .before .before .before .before .before .before .before .before .loop in
-    at-refused (head .inv .3) (search needs) (got (c .before .before .before .before .before .before .before .before .before .before .before .before .before .before .before)) (found-event (c .before .before .before .before .before .before .before .before .before .before .before .before .before .before .before)) _ _ (rw (c .before .answer .given .1) at (c .before .before .before .before .before .before .before .before .before .before .apply .ensures))
+    let done = c .before .before .before .before .before .before .before .before .before .before in
+    let d = event-applied done in
+    at-refused (turn d .loop .inv .3) (search needs) (got d) (found-event d) _ _ (rw (c .before .answer .given .1) at (done .apply .ensures))
 
 enum-told : tie.Need-enum-told Inv-loop μ-loop
 enum-told c = search needs
 
 add-at : tie.Need-add-at Inv-loop μ-loop
-add-at c = omega (arith, c .before .before .before .before .before .before .before .before .before .before .before .before .before .before .before .before .before .before .before .before .before .before .before, on (c .before .before .before .before .before .before .before .before .before .before .before .before .before .before))
+add-at c = let d = event-applied (apply-taken c) in omega (arith, known-bytes (turn d), on d)
 
 loop-less : tie.Need-loop-less Inv-loop μ-loop
-loop-less c = omega (arith, on (c .before .before .before .before .before .before .before .before .before .before .before .before .before .before))
+loop-less c = omega (arith, on (event-applied (apply-taken c)))
 
 loop-again : tie.Need-loop-again Inv-loop μ-loop
 loop-again c =
-    let head = c .before .before .before .before .before .before .before .before .before .before .before .before .before .before .before .before .before .before .before .loop in
-    let done = c .before .before .before .before .before .before .before .before .before .apply in
-    (search needs, search needs, search needs, goes-on (head .inv .3) (omega (arith, c .before .before .before .before .before .before .before .before .before .before .before .before .before .before .before .before .before .before .loop-test)) (got (c .before .before .before .before .before .before .before .before .before .before .before .before .before .before)) (found-event (c .before .before .before .before .before .before .before .before .before .before .before .before .before .before)) _ (rw (c .enum-told .given .1) at (done .ensures)))
+    let done = c .before .before .before .before .before .before .before .before .before in
+    let d = event-applied done in
+    let some = d .before .before .before .before .loop-test in (
+      search needs,
+      search needs,
+      search needs,
+      goes-on (turn d .loop .inv .3) (omega (arith, some)) (got d) (found-event d) _ (rw (c .enum-told .given .1) at (done .apply .ensures)),
+    )
 
 enum-known-why : tie.Need-enum-known-why Inv-loop μ-loop
 enum-known-why c = search needs
@@ -107,8 +136,9 @@ same-length-6 c = search needs
 
 returns-2 : tie.Need-returns-2 Inv-loop μ-loop
 returns-2 c =
-    let head = c .before .before .before .before .before .before .before .loop in
-    rw (c .unreadable .ensures) (at-unread (head .inv .3) (search needs) _ (sym (found (c .before .before .before .before)) ∙ ap readingResult (c .before .before .why .given .1)))
+    let d = c .before .before .before .before in
+    rw (c .unreadable .ensures)
+    (at-unread (turn-of d .loop .inv .3) (search needs) _ (sym (found d) ∙ ap readingResult (c .before .before .why .given .1)))
 
 same-length-7 : tie.Need-same-length-7 Inv-loop μ-loop
 same-length-7 c = search needs

@@ -1,3 +1,4 @@
+-- Each call is one step of the definition, and its contract says so.
 use borrow.Author.Needs.{needs}
 use Rattle.rules.specs.Settings.{finaliser}
 use Rattle.hash.proofs.finaliser.Statement.{statement}

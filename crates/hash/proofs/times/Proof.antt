@@ -1,4 +1,4 @@
--- The product modulo 2^64, by halves.
+-- The product modulo 2^64, by halves: each product of halves fits, and what is added up is the whole product by `halves`.
 use mathlib.Core.Path.{ap, _∙_}
 use Prim.Native.Nat.{ℕ, _+_, _*_, _%_, _^_}
 use borrow.Author.Needs.{needs}

@@ -1,3 +1,4 @@
+-- By the refusal; in each case the number computes.
 use borrow.Author.Needs.{needs}
 use Rattle.judge.proofs.number_of.Statement.{statement}
 use Rattle.judge.proofs.number_of.Tie as tie

@@ -10,7 +10,8 @@ use Rattle.live.proofs.keep_below.Statement.{statement}
 use Rattle.live.proofs.keep_below.Tie as tie
 
 abbrev Inv-loop : tie.InvT-loop
-Inv-loop locations₀ n hashing threshold end number₀ i₀ locations number i = (i ≤ end) × Keeping (under (hashOf hashing) threshold) locations₀ locations number i
+Inv-loop locations₀ n hashing threshold end number₀ i₀ locations number i =
+    (i ≤ end) × Keeping (under (hashOf hashing) threshold) locations₀ locations number i
 
 abbrev μ-loop : tie.MeasureT-loop
 μ-loop locations₀ n hashing threshold end number₀ i₀ locations number i = end - i

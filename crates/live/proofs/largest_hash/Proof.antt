@@ -45,8 +45,15 @@ loop-less c = search needs
 loop-again : tie.Need-loop-again Inv-loop μ-loop
 loop-again c =
     let b = c .before .before .before .before in
-    let a = b .before .before .before .args in
-    (omega arith, rw (largest-more (hashOf (a .hashing)) (a .locations .now) (b .loop .i) (omega arith), c .larger .ensures, c .before .hash-of .ensures, ← b .loop .inv .1))
+    let a = b .before .before .before .args in (
+      omega arith,
+      rw (
+        largest-more (hashOf (a .hashing)) (a .locations .now) (b .loop .i) (omega arith),
+        c .larger .ensures,
+        c .before .hash-of .ensures,
+        ← b .loop .inv .1,
+      ),
+    )
 
 returns : tie.Need-returns Inv-loop μ-loop
 returns c =

@@ -1,3 +1,4 @@
+-- Within the bytes the part from the place on is handed back; beyond them the part at their end, which is empty.
 use borrow.Author.Needs.{needs}
 use mathlib.Core.Path.{sym, _∙_}
 use native.Mathlib.Omega.{arith}

@@ -1,3 +1,4 @@
+-- By what is read at the place: an event leads past its bytes, which lie within the slice, and a refusal leads nowhere.
 use borrow.Author.Needs.{needs}
 use mathlib.Core.Path.{_≡_, sym, ap, _∙_}
 use native.Mathlib.Omega.{arith}
@@ -21,12 +22,15 @@ enum-known-reading c = search needs
 enum-told : tie.Need-enum-told
 enum-told c = search needs
 
--- the reading is the one at the place
-module _ (c : tie.After-read) where
-  at-place : readAt (now (c .before .before .before .args .bytes)) (c .before .before .before .args .at) ≡ readingResult (c .read .result)
-  at-place = rw (← c .before .left-at .ensures) (sym (c .read .ensures))
+abbrev start : tie.After-read → tie.Start
+start d = d .before .before .before
 
-is-got : (c : tie.After-known-told) → readAt (now (c .before .before .before .before .before .before .args .bytes)) (c .before .before .before .before .before .before .args .at) ≡ got (c .before .reading .given .0 .0) (c .before .reading .given .0 .1 .0)
+-- the reading is the one at the place
+at-place : (d : tie.After-read) → (let a = start d .args in readAt (now (a .bytes)) (a .at) ≡ readingResult (d .read .result))
+at-place d = rw (← d .before .left-at .ensures) (sym (d .read .ensures))
+
+is-got : (c : tie.After-known-told) → (let a = start (c .before .before .before) .args in
+    readAt (now (a .bytes)) (a .at) ≡ got (c .before .reading .given .0 .0) (c .before .reading .given .0 .1 .0))
 is-got c = at-place (c .before .before .before) ∙ ap readingResult (c .before .reading .given .1)
 
 add-t7 : tie.Need-add-t7

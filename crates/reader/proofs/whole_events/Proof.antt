@@ -1,3 +1,4 @@
+-- The loop keeps `Counted`: the events so far and those of what is left make up the whole. Each turn is one step; a refusal ends the count.
 use borrow.Author.Needs.{needs}
 use Prim.Native.Nat.{_-_, _<_, _≤_}
 use native.Mathlib.Omega.{arith}
@@ -28,7 +29,9 @@ enum-told-2 c = search needs
 returns : tie.Need-returns Inv-loop μ-loop
 returns c = counted-all _ _ _ (c .before .before .before .loop .inv) _ (c .before .before .step .ensures) _ (c .enum-told2 .given .1)
 
-ahead : (c : tie.After-enum-told Inv-loop μ-loop) → (c .before .before .before .loop .at < c .before .before .step .result .at) × (c .before .before .step .result .at ≤ length (now (c .before .before .before .before .before .args .bytes)))
+-- a step that gives an event leads on, within the bytes
+ahead : (c : tie.After-enum-told Inv-loop μ-loop) → (let turn = c .before .before .before in
+    (turn .loop .at < c .before .before .step .result .at) × (c .before .before .step .result .at ≤ length (now (turn .before .before .args .bytes))))
 ahead c = counted-ahead _ _ _ (c .before .before .before .loop .inv) _ (c .before .before .step .ensures) _ _ (c .enum-told .given .1)
 
 add-events : tie.Need-add-events Inv-loop μ-loop

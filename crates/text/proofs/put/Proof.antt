@@ -1,3 +1,4 @@
+-- The loop keeps the buffer as it was, with the first i bytes of the text pasted at the place.
 use borrow.Author.Needs.{needs}
 use native.Mathlib.Omega.{arith}
 use Prim.Native.Nat.{_-_, _≤_}
@@ -38,8 +39,11 @@ loop-less c = search needs
 loop-again : tie.Need-loop-again Inv-loop μ-loop
 loop-again c =
     let head = c .before .before .loop in
-    let start = c .before .before .before .args in
-    (search needs, search needs, rw (head .inv .2, add-one (head .i)) (paste-suc (start .out .now) (start .at) (start .text .now) (head .i) 0 (search needs) (search needs)))
+    let start = c .before .before .before .args in (
+      search needs,
+      search needs,
+      rw (head .inv .2, add-one (head .i)) (paste-suc (start .out .now) (start .at) (start .text .now) (head .i) 0 (search needs) (search needs)),
+    )
 
 add-result : tie.Need-add-result Inv-loop μ-loop
 add-result c = search needs

@@ -1,3 +1,4 @@
+-- By whether point 0 is answered: then all points are put and `end` behind them, else `empty`.
 use native.Mathlib.Omega.{arith}
 use mathlib.Core.Path.{refl, sym, ap, _∙_}
 use Rattle.rules.specs.Answers.{pointResult}
@@ -6,6 +7,13 @@ use borrow.Author.Needs.{needs}
 use Rattle.text.proofs.put_body.Statement.{statement}
 use Rattle.text.proofs.put_body.Tie as tie
 
+-- the places that a need looks back to: the function's start, and where the points were put
+abbrev start : tie.After-point-at → tie.Start
+start d = d .before .before .before .before
+
+abbrev points-put : tie.After-slice-known3 → tie.After-put-points
+points-put c = c .before .before .before .before .before .before .before
+
 point-at-requires : tie.Need-point-at-requires
 point-at-requires c κs = tt
 
@@ -13,7 +21,16 @@ enum-told : tie.Need-enum-told
 enum-told c = search needs
 
 put-points-requires : tie.Need-put-points-requires
-put-points-requires c κs = (search needs, omega (arith, point-needed (c .before .before .before .before .before .before .before .args .kept) 0 _ (sym (c .before .before .before .point-at .ensures) ∙ ap pointResult (c .before .enum-told .given .1)), c .before .before .before .before .before .before .before .pre), search needs)
+put-points-requires c κs = (
+  search needs,
+  omega (
+    arith,
+    point-needed (start (c .before .before .before) .args .kept) 0 _
+        (sym (c .before .before .before .point-at .ensures) ∙ ap pointResult (c .before .enum-told .given .1)),
+    start (c .before .before .before) .pre,
+  ),
+  search needs,
+)
 
 slice-aggregate-put : tie.Need-slice-aggregate-put
 slice-aggregate-put c = refl
@@ -31,16 +48,21 @@ put-requires-2 : tie.Need-put-requires-2
 put-requires-2 c κs = search needs
 
 same-length : tie.Need-same-length
-same-length c = c .before .before .put .kept .0 ∙ c .before .before .before .before .before .before .before .put-points .kept .0
+same-length c = c .before .before .put .kept .0 ∙ points-put c .put-points .kept .0
 
 returns : tie.Need-returns
-returns c = rw (sym (c .before .before .before .before .before .before .before .before .before .before .before .point-at .ensures) ∙ ap pointResult (c .before .before .before .before .before .before .before .before .before .enum-told .given .1)) (adds-then (c .before .before .before .before .before .before .before .put-points .ensures .0) (c .before .before .put .ensures))
+returns c =
+    rw (sym (points-put c .before .before .before .before .point-at .ensures) ∙ ap pointResult (points-put c .before .before .enum-told .given .1))
+    (adds-then (points-put c .put-points .ensures .0) (c .before .before .put .ensures))
 
 same-length-2 : tie.Need-same-length-2
 same-length-2 c = c .before .before .put2 .kept .0
 
 returns-2 : tie.Need-returns-2
-returns-2 c = rw (sym (c .before .before .before .before .before .before .before .point-at .ensures) ∙ ap pointResult (c .before .before .before .before .before .enum-told2 .given .1)) (c .before .before .put2 .ensures)
+returns-2 c =
+    rw (sym (c .before .before .before .before .before .before .before .point-at .ensures)
+    ∙ ap pointResult (c .before .before .before .before .before .enum-told2 .given .1))
+    (c .before .before .put2 .ensures)
 
 pub put-body-spec : {M : Type 1} → statement M
 put-body-spec =

@@ -1,8 +1,16 @@
+-- Four words with their numbers, one behind another, by `adds-then`.
 use mathlib.Core.Path.{refl, _∙_}
 use Rattle.text.proofs.Laws.{adds-then}
 use borrow.Author.Needs.{needs}
 use Rattle.text.proofs.put_first_line.Statement.{statement}
 use Rattle.text.proofs.put_first_line.Tie as tie
+
+-- where the first two numbers were put
+abbrev second-put : tie.After-slice-known4 → tie.After-put-both2
+second-put c = c .before .before .before .before .before .before .before .before
+
+abbrev first-put : tie.After-put-both2 → tie.After-put-both
+first-put d = d .before .before .before .before .before
 
 slice-aggregate-put-both : tie.Need-slice-aggregate-put-both
 slice-aggregate-put-both c = refl
@@ -26,10 +34,15 @@ put-last-two-requires : tie.Need-put-last-two-requires
 put-last-two-requires c κs = search needs
 
 same-length : tie.Need-same-length
-same-length c = c .before .before .put-last-two .kept .0 ∙ c .before .before .before .before .before .before .before .before .put-both2 .kept .0 ∙ c .before .before .before .before .before .before .before .before .before .before .before .before .before .put-both .kept .0
+same-length c =
+    c .before .before .put-last-two .kept .0 ∙ second-put c .put-both2 .kept .0 ∙ first-put (second-put c) .put-both .kept .0
 
 returns : tie.Need-returns
-returns c = (adds-then (c .before .before .before .before .before .before .before .before .before .before .before .before .before .put-both .ensures .0) (adds-then (c .before .before .before .before .before .before .before .before .put-both2 .ensures .0) (c .before .before .put-last-two .ensures .0)), search needs)
+returns c = (
+  adds-then (first-put (second-put c) .put-both .ensures .0)
+      (adds-then (second-put c .put-both2 .ensures .0) (c .before .before .put-last-two .ensures .0)),
+  search needs,
+)
 
 pub put-first-line-spec : {M : Type 1} → statement M
 put-first-line-spec =

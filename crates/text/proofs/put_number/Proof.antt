@@ -1,3 +1,4 @@
+-- The digits that `decimal` makes are the number's decimal, and at most 20 (`decimal-spelled`).
 use native.Mathlib.Omega.{arith}
 use borrow.Author.Needs.{needs}
 use mathlib.Core.Path.{_∙_}
@@ -17,7 +18,8 @@ slice-aggregate-put c = search needs
 put-requires : tie.Need-put-requires
 put-requires c κs =
     let made = c .before .before .decimal in
-    omega (arith, decimal-spelled (made .result) (c .before .before .before .before .before .args .n) (search needs) (made .ensures .1 .0) .few, made .ensures .0 .1)
+    let args = c .before .before .before .before .before .args in
+    omega (arith, decimal-spelled (made .result) (args .n) (search needs) (made .ensures .1 .0) .few, made .ensures .0 .1)
 
 same-length : tie.Need-same-length
 same-length c = c .before .before .put .kept .0
@@ -25,7 +27,8 @@ same-length c = c .before .before .put .kept .0
 returns : tie.Need-returns
 returns c =
     let made = c .before .before .before .before .before .decimal in
-    let told = decimal-spelled (made .result) (c .before .before .before .before .before .before .before .before .args .n) (search needs) (made .ensures .1 .0) in
+    let args = c .before .before .before .before .before .before .before .before .args in
+    let told = decimal-spelled (made .result) (args .n) (search needs) (made .ensures .1 .0) in
     (rw (← (made .ensures .1 .1 ∙ told .are)) (c .before .before .put .ensures), omega (arith, told .few, made .ensures .0 .1))
 
 pub put-number-spec : {M : Type 1} → statement M

@@ -1,3 +1,4 @@
+-- By whether the point is answered: then its line is put, else nothing.
 use mathlib.Core.Path.{sym, ap, _∙_}
 use Rattle.rules.specs.Answers.{pointResult}
 use Rattle.text.proofs.Laws.{adds-none}
@@ -21,7 +22,11 @@ same-length : tie.Need-same-length
 same-length c = c .before .before .put-point-line .kept .0
 
 returns : tie.Need-returns
-returns c = (rw (sym (c .before .before .before .before .before .before .before .point-at .ensures) ∙ ap pointResult (c .before .before .before .before .before .p .given .1)) (c .before .before .put-point-line .ensures .0), search needs)
+returns c =
+    let answered =
+    sym (c .before .before .before .before .before .before .before .point-at .ensures)
+    ∙ ap pointResult (c .before .before .before .before .before .p .given .1) in
+    (rw answered (c .before .before .put-point-line .ensures .0), search needs)
 
 returns-2 : tie.Need-returns-2
 returns-2 c = (rw (sym (c .before .before .point-at .ensures) ∙ ap pointResult (c .enum-told .given .1)) (adds-none _ _ (search needs)), search needs)

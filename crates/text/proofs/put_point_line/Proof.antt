@@ -1,8 +1,13 @@
+-- The size, and the two other numbers behind it, by `adds-then`.
 use mathlib.Core.Path.{refl, _∙_}
 use Rattle.text.proofs.Laws.{adds-then}
 use borrow.Author.Needs.{needs}
 use Rattle.text.proofs.put_point_line.Statement.{statement}
 use Rattle.text.proofs.put_point_line.Tie as tie
+
+-- where the size was put
+abbrev size-put : tie.After-slice-known3 → tie.After-put-number
+size-put c = c .before .before .before .before .before .before .before .before
 
 put-number-requires : tie.Need-put-number-requires
 put-number-requires c κs = search needs
@@ -17,10 +22,10 @@ put-last-two-requires : tie.Need-put-last-two-requires
 put-last-two-requires c κs = search needs
 
 same-length : tie.Need-same-length
-same-length c = c .before .before .put-last-two .kept .0 ∙ c .before .before .before .before .before .before .before .before .put-number .kept .0
+same-length c = c .before .before .put-last-two .kept .0 ∙ size-put c .put-number .kept .0
 
 returns : tie.Need-returns
-returns c = (adds-then (c .before .before .before .before .before .before .before .before .put-number .ensures .0) (c .before .before .put-last-two .ensures .0), search needs)
+returns c = (adds-then (size-put c .put-number .ensures .0) (c .before .before .put-last-two .ensures .0), search needs)
 
 pub put-point-line-spec : {M : Type 1} → statement M
 put-point-line-spec =

@@ -1,3 +1,4 @@
+-- The loop keeps the lines of the points so far, one behind another, each of at most 63 bytes.
 use borrow.Author.Needs.{needs}
 use native.Mathlib.Omega.{arith}
 use native.Mathlib.Numerals.{add-one}
@@ -11,11 +12,12 @@ use Rattle.text.proofs.put_points.Statement.{statement}
 use Rattle.text.proofs.put_points.Tie as tie
 
 abbrev Inv-loop : tie.InvT-loop
-Inv-loop out₀ at k counts thresholds last end₀ number₀ out end number =
-    (number ≤ last + 1) × (length out ≡ length out₀) × (end ≤ at + 63 * number) × Adds out₀ at (linesTo number k (bucketsOf counts thresholds)) out end
+Inv-loop out₀ at kept counts thresholds last end₀ number₀ out end number =
+    (number ≤ last + 1) × (length out ≡ length out₀) × (end ≤ at + 63 * number)
+    × Adds out₀ at (linesTo number kept (bucketsOf counts thresholds)) out end
 
 abbrev μ-loop : tie.MeasureT-loop
-μ-loop out₀ at k counts thresholds last end₀ number₀ out end number =
+μ-loop out₀ at kept counts thresholds last end₀ number₀ out end number =
     last + 1 - number
 
 loop-holds : tie.Need-loop-holds Inv-loop μ-loop
@@ -35,8 +37,12 @@ loop-again : tie.Need-loop-again Inv-loop μ-loop
 unfolding linesTo
 loop-again c =
     let head = c .before .before .before .before .before .loop in
-    let line = c .before .before .put-point .ensures in
-    (search needs, c .before .before .put-point .kept .0 ∙ head .inv .1, omega (arith, line .1, head .inv .2), rw (add-one (head .number)) (adds-then (head .inv .3) (line .0)))
+    let line = c .before .before .put-point .ensures in (
+      search needs,
+      c .before .before .put-point .kept .0 ∙ head .inv .1,
+      omega (arith, line .1, head .inv .2),
+      rw (add-one (head .number)) (adds-then (head .inv .3) (line .0)),
+    )
 
 same-length : tie.Need-same-length Inv-loop μ-loop
 same-length c = c .before .loop .inv .1

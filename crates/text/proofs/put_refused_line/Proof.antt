@@ -1,3 +1,4 @@
+-- Where the buffer has room, the line stands over its front; else nothing is put.
 use mathlib.Core.Path.{refl}
 use borrow.Author.Tests.{lt-ltb, le-ltb}
 use Rattle.text.specs.Text.{refusedLine}
@@ -7,7 +8,9 @@ use Rattle.text.proofs.put_refused_line.Statement.{statement}
 use Rattle.text.proofs.put_refused_line.Tie as tie
 
 returns : tie.Need-returns
-returns c = front-none (refusedLine (c .before .before .args .number) (c .before .before .args .place)) (c .before .before .args .out .now) (lt-ltb _ 53 (c .if1 .taken))
+returns c =
+    front-none (refusedLine (c .before .before .args .number) (c .before .before .args .place)) (c .before .before .args .out .now)
+    (lt-ltb _ 53 (c .if1 .taken))
 
 slice-aggregate-put-last-two : tie.Need-slice-aggregate-put-last-two
 slice-aggregate-put-last-two c = refl

@@ -1,3 +1,4 @@
+-- By the answer; in each case the words compute.
 use borrow.Author.Needs.{needs}
 use Rattle.words.proofs.answer_words.Statement.{statement}
 use Rattle.words.proofs.answer_words.Tie as tie

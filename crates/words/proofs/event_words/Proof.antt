@@ -1,3 +1,4 @@
+-- By the kind of event; in each case the words compute, since every field fits a word.
 use borrow.Author.Needs.{needs}
 use Rattle.words.proofs.event_words.Statement.{statement}
 use Rattle.words.proofs.event_words.Tie as tie

@@ -1,3 +1,4 @@
+-- By the answer: a refusal leaves the words as they were, and any other gives the record's.
 use borrow.Author.Needs.{needs}
 use Rattle.words.proofs.kept_words.Statement.{statement}
 use Rattle.words.proofs.kept_words.Tie as tie

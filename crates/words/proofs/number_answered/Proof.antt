@@ -1,3 +1,4 @@
+-- By the answer: a refusal has its number, and any other 0.
 use borrow.Author.Needs.{needs}
 use Rattle.words.proofs.number_answered.Statement.{statement}
 use Rattle.words.proofs.number_answered.Tie as tie

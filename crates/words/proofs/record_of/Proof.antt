@@ -1,3 +1,4 @@
+-- There are nine words, so each is read within them, and the record computes.
 use mathlib.Core.Path.{refl}
 use borrow.Author.Needs.{needs}
 use Rattle.words.proofs.record_of.Statement.{statement}
