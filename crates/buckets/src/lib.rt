@@ -5,9 +5,8 @@ ghost use mathlib.Core.Path.{_≡_};
 ghost use mathlib.Core.Bool.{false};
 ghost use Prim.Native.Nat.{_≤_, min};
 ghost use lib.ListN.{length};
-ghost use Rattle.rules.specs.Layout.{bucketsOf};
+ghost use Rattle.rules.specs.Layout.{bucketsOf, bucketsBefore};
 ghost use Rattle.rules.specs.Conditions.{tornBucket};
-ghost use Rattle.rules.specs.Lent.{bucketsBefore};
 ghost use Rattle.buckets.specs.Buckets.{reportResult, recorded, recordedOf, SoFar, addedTo, reportOf};
 
 // The sums of a report: the hits to a point, and the total.

@@ -15,7 +15,7 @@ ghost use Prim.Native.Nat.{_+_, _-_, _≤_, _<_};
 ghost use lib.Dec.{ltb};
 ghost use lib.ListN.{length, take, drop};
 ghost use Rattle.rules.specs.Answers.{numberOf};
-ghost use Rattle.rules.specs.Lent.{tablesBefore, trackerBefore, bucketsBefore, tablesAfter};
+ghost use Rattle.rules.specs.Layout.{tablesBefore, trackerBefore, bucketsBefore, tablesAfter};
 ghost use Rattle.text.specs.Text.{refusedLine, curveText};
 ghost use Rattle.feed.specs.Feed.{endingResult};
 ghost use Rattle.curve.specs.Program.{firstSettings, textFrom, textOver, programOf};

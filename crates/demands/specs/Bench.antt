@@ -41,11 +41,11 @@ pointAt s k = ownPoint (s .kept) k (s .tables .histogram)
 
 -- size, misses and total of a point, as the program prints them
 abbrev pub printed : Tracker → ℕ → List ℕ
-printed s k = by (pointAt s k)
+printed s k = numbers (pointAt s k)
   where
-    by : Result Point → List ℕ
-    by (refused n) = []
-    by (gives p) = p .size ∷ p .misses ∷ p .total ∷ []
+    numbers : Result Point → List ℕ
+    numbers (refused n) = []
+    numbers (gives p) = p .size ∷ p .misses ∷ p .total ∷ []
 
 abbrev pub caseA : Tracker
 caseA = ran (kind0 4 fullRate 1 4) (1 ∷ 2 ∷ 1 ∷ 3 ∷ 2 ∷ 2 ∷ [])

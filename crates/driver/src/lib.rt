@@ -20,7 +20,7 @@ use words::point_words;
 use words::record_of;
 use words::started_words;
 ghost use mathlib.Core.Path.{_≡_};
-ghost use Rattle.rules.specs.Lent.{tablesBefore, bucketsBefore, tablesAfter};
+ghost use Rattle.rules.specs.Layout.{tablesBefore, bucketsBefore, tablesAfter};
 ghost use Rattle.driver.specs.Calls.{settingsFrom, shapeFrom, setupBodyFrom, started, referred, given};
 ghost use Rattle.driver.specs.Calls.{hashIn, setupIn, restartIn, referIn, pointIn, plotIn, readIn, writeIn};
 

@@ -5,7 +5,7 @@ use rules::Refusal;
 use rules::Taken;
 ghost use mathlib.Core.Path.{_≡_};
 ghost use Rattle.rules.specs.Answers.{number};
-ghost use Rattle.rules.specs.Lent.{trackerBefore};
+ghost use Rattle.rules.specs.Layout.{trackerBefore};
 ghost use Rattle.feed.specs.Feed.{unreadable, feedOf, endingResult, afterFed};
 
 // Why no more bytes were taken: they end after a whole event, or inside one, or an event was refused.

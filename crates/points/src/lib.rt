@@ -15,7 +15,7 @@ ghost use Prim.Native.Nat.{_≤_};
 ghost use Rattle.rules.specs.Settings.{mostBuckets, mostWidth};
 ghost use Rattle.rules.specs.Answers.{pointResult, plotResult};
 ghost use Rattle.rules.specs.Calls.{pointOf, plotOf};
-ghost use Rattle.rules.specs.Lent.{bucketsBefore};
+ghost use Rattle.rules.specs.Layout.{bucketsBefore};
 ghost use Rattle.points.specs.Points.{fromSums};
 
 // The point, from the report's sums.

@@ -16,9 +16,8 @@ ghost use Rattle.rules.specs.Settings.{mostReferences, mostLimit};
 ghost use Rattle.rules.specs.Reference.{firstPlace, scaledDistance};
 ghost use Rattle.rules.specs.Answers.{replyResult};
 ghost use Rattle.rules.specs.Order.{outcome};
-ghost use Rattle.rules.specs.Layout.{tracker, liveOf};
+ghost use Rattle.rules.specs.Layout.{tracker, liveOf, trackerAfter, trackerBefore};
 ghost use Rattle.rules.specs.Calls.{referOf};
-ghost use Rattle.rules.specs.Lent.{trackerAfter, trackerBefore};
 ghost use Rattle.refer.specs.Refer.{referredOf, countedIn, enteredOf, Samples};
 ghost use Rattle.live.specs.Live.{lowering};
 

@@ -1,13 +1,15 @@
 -- Where the record, the list and the buckets stand in what is lent, and what a step and a fresh start leave there. Assumes nothing.
 use Prim.Native.Nat.{ℕ, _+_}
 use mathlib.Core.List.{List}
-use lib.ListN.{length, take}
+use lib.ListN.{length, take, replicate}
+use denote.Ref.{RefT, now}
+use denote.Triple.Both.{Both}
 use Rattle.rules.specs.declared.Settings.{Settings}
 use Rattle.rules.specs.declared.Numbers.{Numbers}
 use Rattle.rules.specs.declared.Record.{Record}
 use Rattle.rules.specs.Lists.{over}
-use Rattle.rules.specs.Settings.{hashOf, Histogram, Tables}
-use Rattle.rules.specs.Reference.{Sample, Profile, widths, Reply, skipped, first, again, Stepped, blank}
+use Rattle.rules.specs.Settings.{hashOf, Histogram, Tables, needed}
+use Rattle.rules.specs.Reference.{Sample, Profile, widths, Reply, skipped, first, again, Stepped}
 
 -- a record with its tables
 pub record Tracker : Type 0 where
@@ -22,6 +24,32 @@ tablesOf locations counts thresholds = record { locations = locations; histogram
 
 abbrev pub tracker : Record → (locations counts thresholds : List ℕ) → Tracker
 tracker kept locations counts thresholds = record { kept = kept; tables = tablesOf locations counts thresholds }
+
+-- ---- what a promise says of the lent tables: as they were handed over, and as they are on return
+
+-- a lent slice, at entry and at exit
+abbrev pub Lent : Type 0
+Lent = Both (RefT (List ℕ)) (RefT (List ℕ))
+
+abbrev pub bucketsBefore : (counts thresholds : Lent) → Histogram
+bucketsBefore counts thresholds = bucketsOf (now (counts .entry)) (now (thresholds .entry))
+
+abbrev pub bucketsAfter : (counts thresholds : Lent) → Histogram
+bucketsAfter counts thresholds = bucketsOf (now (counts .exit)) (now (thresholds .exit))
+
+abbrev pub tablesBefore : (locations counts thresholds : Lent) → Tables
+tablesBefore locations counts thresholds = record { locations = now (locations .entry); histogram = bucketsBefore counts thresholds }
+
+abbrev pub tablesAfter : (locations counts thresholds : Lent) → Tables
+tablesAfter locations counts thresholds = record { locations = now (locations .exit); histogram = bucketsAfter counts thresholds }
+
+abbrev pub trackerBefore : Record → (locations counts thresholds : Lent) → Tracker
+trackerBefore kept locations counts thresholds = record { kept = kept; tables = tablesBefore locations counts thresholds }
+
+abbrev pub trackerAfter : Record → (locations counts thresholds : Lent) → Tracker
+trackerAfter kept locations counts thresholds = record { kept = kept; tables = tablesAfter locations counts thresholds }
+
+-- ---- where the list and the buckets stand
 
 -- the live list stands at the front of the location table
 abbrev pub liveOf : Tracker → List ℕ
@@ -52,8 +80,8 @@ stored r s = record {
 -- a fresh start: all needed counts 0, all needed bucket thresholds T0; entries past the needed ones never changed
 abbrev pub freshBuckets : Settings → Histogram → Histogram
 freshBuckets s g = record {
-  counts = over (blank (s .buckets) (s .start) .counts) (g .counts);
-  thresholds = over (blank (s .buckets) (s .start) .thresholds) (g .thresholds);
+  counts = over (replicate (needed (s .buckets)) 0) (g .counts);
+  thresholds = over (replicate (needed (s .buckets)) (s .start)) (g .thresholds);
 }
 
 -- the location table is not written

@@ -7,7 +7,6 @@ pub mod Answers
 pub mod Order
 pub mod Events
 pub mod Layout
-pub mod Lent
 pub mod Conditions
 pub mod Calls
 pub mod Cache

@@ -4,9 +4,9 @@ use mathlib.Core.Bool.{Bool, cond}
 use mathlib.Core.List.{List, [], _∷_, _++_}
 use mathlib.Core.Option.{Option, some, none}
 use lib.Dec.{eqb, ltb, leb}
-use lib.ListN.{length, getD, take, drop, set, replicate}
+use lib.ListN.{length, getD, take, drop, set}
 use Rattle.rules.specs.Lists.{keep}
-use Rattle.rules.specs.Settings.{fullRate, oneReference, Histogram, needed}
+use Rattle.rules.specs.Settings.{fullRate, oneReference, Histogram}
 
 -- the threshold in force, the live locations, latest first, and the histogram
 pub record Sample : Type 0 where
@@ -123,7 +123,3 @@ unfoldable pub step : (ℕ → ℕ) → (limit : ℕ) → Profile → (x : ℕ) 
 step hash limit f x s =
     cond (under hash (s .threshold) x) (sampledStep hash limit f x s (firstPlace x (s .live)))
     (record { reply = skipped; left = s })
-
--- a fresh start over the bucket tables: all needed counts 0, all needed bucket thresholds T0
-abbrev pub blank : (buckets start : ℕ) → Histogram
-blank buckets start = record { counts = replicate (needed buckets) 0; thresholds = replicate (needed buckets) start }

@@ -16,10 +16,9 @@ ghost use Rattle.rules.specs.Lists.{over};
 ghost use Rattle.rules.specs.Settings.{withDefaults, orDefault, outOfRange};
 ghost use Rattle.rules.specs.Answers.{startedResult};
 ghost use Rattle.rules.specs.Order.{outcome};
-ghost use Rattle.rules.specs.Layout.{bucketsOf, freshBuckets, freshRecord};
+ghost use Rattle.rules.specs.Layout.{bucketsOf, freshBuckets, freshRecord, tablesBefore, bucketsBefore, tablesAfter, bucketsAfter};
 ghost use Rattle.rules.specs.Conditions.{bucketsTooShort};
 ghost use Rattle.rules.specs.Calls.{setupOf, restartOf};
-ghost use Rattle.rules.specs.Lent.{tablesBefore, bucketsBefore, tablesAfter, bucketsAfter};
 
 fn or_default(setting: u64, default: u64) -> u64
     ensures { λ r. ⌜ r ≡ orDefault default setting ⌝ }
