@@ -24,7 +24,7 @@ referring (x ∷ rest) = call.Reference x
 -- the event as one call
 abbrev pub callOf : Event → Call
 callOf (event.Location location) = referring (referencesOf (event.Location location))
-callOf (event.Span offset length) = referring (referencesOf (event.Span offset length))
+callOf (event.Span offset bytes) = referring (referencesOf (event.Span offset bytes))
 callOf event.Restart = call.Restart
 callOf (event.Setup body) = call.Setup (settingsOf body)
 

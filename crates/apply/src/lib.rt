@@ -14,8 +14,8 @@ ghost use mathlib.Core.Path.{_≡_};
 ghost use Rattle.rules.specs.Answers.{takenResult};
 ghost use Rattle.rules.specs.Order.{outcome};
 ghost use Rattle.rules.specs.Events.{settingsOf};
-ghost use Rattle.rules.specs.Calls.{applyOf};
 ghost use Rattle.rules.specs.Layout.{trackerAfter, trackerBefore};
+ghost use Rattle.rules.specs.Calls.{applyOf};
 ghost use Rattle.apply.specs.EventCall.{callOf, startedOn, takenFrom};
 
 // What an event asks of a tracker: at most one reference, or a fresh start.

@@ -23,4 +23,5 @@ pub record Printed (input : List ℕ) : Type 0 where
   pub events : List Event
   pub are : Events (take (feedOf input start .taken) input) events
   pub run : Run (pastOf events []) (feedOf input start .left)
-  pub text : feedOf input start .result ≡ gives whole → programOf input ≡ curveText (feedOf input start .left .kept) (feedOf input start .left .tables .histogram)
+  pub text : feedOf input start .result ≡ gives whole
+      → programOf input ≡ curveText (feedOf input start .left .kept) (feedOf input start .left .tables .histogram)

@@ -113,8 +113,10 @@ AfterFed p fed bytes r buffer =
 -- after these bytes were read: those left over, and more
 abbrev pub AfterBytes : Pause → Tables → (bytes : List ℕ) → Next → (buffer : List ℕ) → Tables → Type 0
 AfterBytes p t bytes r buffer after =
-    (first : Tracker) (rest more : List ℕ) → Follows first (p .place) (record { kept = p .kept; tables = t }) rest → bytes ≡ rest ++ more → Leads first p r buffer after
+    (first : Tracker) (rest more : List ℕ) → Follows first (p .place) (record { kept = p .kept; tables = t }) rest → bytes ≡ rest ++ more
+    → Leads first p r buffer after
 
 -- after a read behind those left over
 abbrev pub AfterRead : Pause → Tables → (rest : List ℕ) → Next → (buffer : List ℕ) → Tables → Type 0
-AfterRead p t rest r buffer after = (first : Tracker) → Follows first (p .place) (record { kept = p .kept; tables = t }) rest → Leads first p r buffer after
+AfterRead p t rest r buffer after =
+    (first : Tracker) → Follows first (p .place) (record { kept = p .kept; tables = t }) rest → Leads first p r buffer after

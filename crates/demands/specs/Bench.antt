@@ -69,7 +69,8 @@ pub record BenchTable : Type 0 where
       × (printed caseA 3 ≡ 3 ∷ 768 ∷ 1536 ∷ []) × (printed caseA 4 ≡ 4 ∷ 768 ∷ 1536 ∷ [])
   pub b : accepted (kind0 2 16 1048576 4) (10 ∷ 5 ∷ 10 ∷ 7 ∷ 5 ∷ [])
       × (caseB .kept .numbers ≡ record { references = 5; sampled = 5 }) × (caseB .kept .threshold ≡ 10) × (caseB .kept .live ≡ 2)
-      × (ran (kind0 2 16 1048576 4) (10 ∷ 5 ∷ 10 ∷ []) .kept .threshold ≡ 16) × (ran (kind0 2 16 1048576 4) (10 ∷ 5 ∷ 10 ∷ 7 ∷ []) .kept .threshold ≡ 10)
+      × (ran (kind0 2 16 1048576 4) (10 ∷ 5 ∷ 10 ∷ []) .kept .threshold ≡ 16)
+      × (ran (kind0 2 16 1048576 4) (10 ∷ 5 ∷ 10 ∷ 7 ∷ []) .kept .threshold ≡ 10)
       × (printed caseB 0 ≡ 0 ∷ 896 ∷ 896 ∷ []) × (printed caseB 1 ≡ 1048576 ∷ 896 ∷ 896 ∷ []) × (printed caseB 2 ≡ 2097152 ∷ 480 ∷ 896 ∷ [])
       × (printed caseB 3 ≡ 3145728 ∷ 480 ∷ 896 ∷ []) × (printed caseB 4 ≡ 4194304 ∷ 480 ∷ 896 ∷ [])
   pub c : accepted (kind0 1 16 0 0) (3 ∷ 16777219 ∷ []) × (caseC .kept .threshold ≡ 3) × (liveOf caseC ≡ [])
@@ -84,7 +85,8 @@ pub record BenchTable : Type 0 where
       × (hitsAt 4 1 (caseF .tables .histogram) ≡ 146)
   pub g : (pointAt caseA 4 ≡ gives (record { size = 4; hits = 768; misses = 768; total = 1536 })) × (pointAt caseA 5 ≡ refused 6)
   pub h : (t : Tables) → tooShort (withDefaults (kind0 8192 0 0 0)) t ≡ false
-      → (setupOf (kind0 8192 0 0 0) t .result ≡ gives (freshRecord (withDefaults (kind0 8192 0 0 0)))) × (setupOf (kind0 8193 0 0 0) t .result ≡ refused 1)
+      → (setupOf (kind0 8192 0 0 0) t .result ≡ gives (freshRecord (withDefaults (kind0 8192 0 0 0))))
+      × (setupOf (kind0 8193 0 0 0) t .result ≡ refused 1)
   pub i : hashOf (record { kind = 1 }) 0 ≡ 0
   pub j : readOf (0 ∷ []) ≡ refused 8
   pub k : readOf (3 ∷ []) ≡ gives (record { event = Restart; taken = 1 })

@@ -7,6 +7,7 @@ use Rattle.rules.specs.declared.Record.{Record}
 use Rattle.rules.specs.Settings.{Tables}
 use Rattle.rules.specs.Reference.{Reply, skipped, first, again}
 use Rattle.rules.specs.Answers.{gives}
+use Rattle.rules.specs.Order.{outcome}
 use Rattle.rules.specs.Layout.{Tracker}
 use Rattle.rules.specs.Calls.{setupOf, restartOf, referOf}
 use Rattle.rules.specs.History.{Reference}
@@ -14,9 +15,10 @@ use Rattle.rules.specs.History.{Reference}
 -- a run since a fresh start, with the record and tables it left: begun by an accepted setup, or by an accepted restart of any record
 -- and tables; continued by accepted references
 pub data Run : List Reference → Tracker → Type 0 where
-  setup : (given : Settings) (t : Tables) {s : Tracker} → setupOf given t ≡ record { result = gives (s .kept); left = s .tables } → Run [] s
-  restart : (kept : Record) (t : Tables) {s : Tracker} → restartOf kept t ≡ record { result = gives (s .kept); left = s .tables } → Run [] s
-  refer : {past : List Reference} {s after : Tracker} {x : Reference} {r : Reply} → Run past s → referOf x s ≡ record { result = gives r; left = after } → Run (x ∷ past) after
+  setup : (given : Settings) (t : Tables) {s : Tracker} → setupOf given t ≡ outcome (gives (s .kept)) (s .tables) → Run [] s
+  restart : (kept : Record) (t : Tables) {s : Tracker} → restartOf kept t ≡ outcome (gives (s .kept)) (s .tables) → Run [] s
+  refer : {past : List Reference} {s after : Tracker} {x : Reference} {r : Reply}
+      → Run past s → referOf x s ≡ outcome (gives r) after → Run (x ∷ past) after
 
 -- the answers of a run, newest first
 abbrev pub answers : {past : List Reference} {s : Tracker} → Run past s → List Reply

@@ -12,6 +12,7 @@ use Rattle.rules.specs.Settings.{needed, mostReferences, fullRate, oneReference
 use Rattle.rules.specs.Reference.{Reply, skipped, first, again, countAt, thresholdAt}
 use Rattle.rules.specs.Curve.{rawTo, totalOf, curvePoint}
 use Rattle.rules.specs.Answers.{refused, gives}
+use Rattle.rules.specs.Order.{outcome}
 use Rattle.rules.specs.Events.{eventBytes, eventLength, Fits, readOf, writeOf}
 use Rattle.rules.specs.Layout.{Tracker, liveOf, hashFor, profileOf}
 use Rattle.rules.specs.Calls.{setupOf, restartOf, referOf, ownPoint}
@@ -51,7 +52,8 @@ abbrev pub historyReply : Tracker → List Reference → ℕ → Reply
 historyReply s past x = cond (inForce s x) (cond (has x (locations past)) (again (distance (inForce s) x (locations past))) first) skipped
 
 abbrev pub Answers : Type 0
-Answers = (past : List Reference) (s after : Tracker) (x : ℕ) (r : Reply) → Run past s → referOf x s ≡ record { result = gives r; left = after } → r ≡ historyReply s past x
+Answers = (past : List Reference) (s after : Tracker) (x : ℕ) (r : Reply) → Run past s
+    → referOf x s ≡ outcome (gives r) after → r ≡ historyReply s past x
 
 -- references is the number of references since the start, sampled of those answered Again or First, live the list's length
 pub record Numbered (past : List Reference) (s : Tracker) (replies : List Reply) : Type 0 where
@@ -79,7 +81,8 @@ pub record LikeLru (past : List Reference) (s : Tracker) (k : ℕ) : Type 0 wher
   pub none-made : past ≡ [] → ownPoint (s .kept) k (s .tables .histogram) ≡ refused 9
 
 abbrev pub FullRate : Type 0
-FullRate = (past : List Reference) (s : Tracker) → Run past s → s .kept .settings .start ≡ fullRate → length (recency (locations past)) ≤ s .kept .settings .limit
+FullRate = (past : List Reference) (s : Tracker) → Run past s → s .kept .settings .start ≡ fullRate
+    → length (recency (locations past)) ≤ s .kept .settings .limit
     → (k : ℕ) → k ≤ s .kept .settings .buckets → LikeLru past s k
 
 -- "Trace events written are read back the same.": with their length, any bytes behind them
@@ -95,7 +98,7 @@ WrittenReadBack = (e : Event) → Fits e → (buffer : List ℕ) (n : ℕ) → w
 -- a reference is refused only when Full, and then it is
 abbrev pub OnlyFull : Type 0
 OnlyFull = (past : List Reference) (s : Tracker) (x : ℕ) → Run past s
-    → referOf x s ≡ cond (eqb (length past) mostReferences) (record { result = refused 4; left = s }) (record { result = gives (historyReply s past x); left = referOf x s .left })
+    → referOf x s ≡ cond (eqb (length past) mostReferences) (outcome (refused 4) s) (outcome (gives (historyReply s past x)) (referOf x s .left))
 
 -- a point under the record's own shape is refused only 6 or 9, exactly on their conditions
 abbrev pub OnlyPointOrEmpty : Type 0
@@ -119,8 +122,10 @@ Bounds = (past : List Reference) (s : Tracker) → Run past s → (j : ℕ) → 
 -- a refused call leaves the run what it was, so that refused calls may stand anywhere in it
 pub record Unmoved (past : List Reference) (s : Tracker) : Type 0 where
   pub by-refer : (x n : ℕ) → referOf x s .result ≡ refused n → Run past (referOf x s .left)
-  pub by-restart : (n : ℕ) → restartOf (s .kept) (s .tables) .result ≡ refused n → Run past (record { kept = s .kept; tables = restartOf (s .kept) (s .tables) .left })
-  pub by-setup : (given : Settings) (n : ℕ) → setupOf given (s .tables) .result ≡ refused n → Run past (record { kept = s .kept; tables = setupOf given (s .tables) .left })
+  pub by-restart : (n : ℕ) → restartOf (s .kept) (s .tables) .result ≡ refused n
+      → Run past (record { kept = s .kept; tables = restartOf (s .kept) (s .tables) .left })
+  pub by-setup : (given : Settings) (n : ℕ) → setupOf given (s .tables) .result ≡ refused n
+      → Run past (record { kept = s .kept; tables = setupOf given (s .tables) .left })
 
 abbrev pub RefusedAnywhere : Type 0
 RefusedAnywhere = (past : List Reference) (s : Tracker) → Run past s → Unmoved past s

@@ -72,4 +72,8 @@ endingResult ending.Inside = gives inside
 endingResult (ending.Refused r) = refused (number r)
 
 abbrev pub afterFed : Fed → (locations counts thresholds : List ℕ) → Feeding
-afterFed r locations counts thresholds = record { taken = r .taken; result = endingResult (r .ending); left = tracker (r .kept) locations counts thresholds }
+afterFed r locations counts thresholds = record {
+  taken = r .taken;
+  result = endingResult (r .ending);
+  left = tracker (r .kept) locations counts thresholds;
+}

@@ -21,7 +21,7 @@ onto (x ∷ xs) past = onto xs (x ∷ past)
 -- the references since the last fresh start, newest first, after one event more
 abbrev pub pastAfter : Event → List Reference → List Reference
 pastAfter (Location x) past = onto (referencesOf (Location x)) past
-pastAfter (Span offset length) past = onto (referencesOf (Span offset length)) past
+pastAfter (Span offset bytes) past = onto (referencesOf (Span offset bytes)) past
 pastAfter Restart past = []
 pastAfter (Setup b) past = []
 
@@ -33,7 +33,7 @@ pastOf (e ∷ es) past = pastOf es (pastAfter e past)
 -- an event is a fresh start
 abbrev pub freshStart : Event → Bool
 freshStart (Location x) = false
-freshStart (Span offset length) = false
+freshStart (Span offset bytes) = false
 freshStart Restart = true
 freshStart (Setup b) = true
 

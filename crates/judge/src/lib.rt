@@ -13,8 +13,8 @@ ghost use mathlib.Core.Path.{_≡_};
 ghost use lib.Dec.{ltb};
 ghost use Rattle.rules.specs.Settings.{outOfRange, needed, outside};
 ghost use Rattle.rules.specs.Answers.{number};
-ghost use Rattle.rules.specs.Conditions.{bucketsTooShort, tooShort, tornRecord, stale};
 ghost use Rattle.rules.specs.Layout.{tablesBefore, bucketsBefore};
+ghost use Rattle.rules.specs.Conditions.{bucketsTooShort, tooShort, tornRecord, stale};
 
 // A refusal's number, for who answers in numbers.
 pub fn number_of(why: Refusal) -> u64

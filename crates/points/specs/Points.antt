@@ -10,4 +10,6 @@ use Rattle.rules.specs.Layout.{profileOf}
 
 -- point k, from the report's sums
 abbrev pub fromSums : Settings → (k : ℕ) → Sums → Result Point
-fromSums s k sums = cond (eqb (sums .total) 0) (refused 9) (gives (record { size = profileOf s .size k; hits = sums .hits; misses = sums .total - sums .hits; total = sums .total }))
+fromSums s k sums =
+    cond (eqb (sums .total) 0) (refused 9)
+    (gives (record { size = profileOf s .size k; hits = sums .hits; misses = sums .total - sums .hits; total = sums .total }))

@@ -14,8 +14,8 @@ ghost use mathlib.Core.Path.{_≡_};
 ghost use Prim.Native.Nat.{_≤_};
 ghost use Rattle.rules.specs.Settings.{mostBuckets, mostWidth};
 ghost use Rattle.rules.specs.Answers.{pointResult, plotResult};
-ghost use Rattle.rules.specs.Calls.{pointOf, plotOf};
 ghost use Rattle.rules.specs.Layout.{bucketsBefore};
+ghost use Rattle.rules.specs.Calls.{pointOf, plotOf};
 ghost use Rattle.points.specs.Points.{fromSums};
 
 // The point, from the report's sums.

@@ -24,8 +24,7 @@ use Rattle.rules.specs.declared.Written.{Written}
 use Rattle.rules.specs.declared.Written.the-variants as written
 use Rattle.rules.specs.Settings.{Tables}
 use Rattle.rules.specs.Reference.{Reply, skipped, first, again}
-use Rattle.rules.specs.Answers.{Result, refused, gives, number, numberOf, Got, startedResult, replyResult, pointResult}
-use Rattle.rules.specs.Answers.{plotResult, takenResult, readingResult, writtenResult}
+use Rattle.rules.specs.Answers.{Result, refused, gives, number, numberOf, Got, startedResult, replyResult, pointResult, plotResult, takenResult, readingResult, writtenResult}
 
 -- what undoes a reading makes it injective
 pub undone : {A B : Type 0} (f : A → B) (g : B → A) → ((a : A) → g (f a) ≡ a) → (a b : A) → f a ≡ f b → a ≡ b

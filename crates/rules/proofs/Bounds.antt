@@ -10,8 +10,7 @@ use lib.Dec.{eqb}
 use borrow.Author.Tests.{eqb-false, ltb-false, ne-eqb, le-ltb}
 use Rattle.rules.specs.declared.Settings.{Settings}
 use Rattle.rules.specs.declared.Record.{Record}
-use Rattle.rules.specs.Settings.{outside, outOfRange, Histogram, Tables, needed, fullRate, mostReferences}
-use Rattle.rules.specs.Settings.{mostBuckets, mostLimit, mostWidth, oneReference}
+use Rattle.rules.specs.Settings.{outside, outOfRange, Histogram, Tables, needed, fullRate, mostReferences, mostBuckets, mostLimit, mostWidth, oneReference}
 use Rattle.rules.specs.Reference.{rescaled}
 use Rattle.rules.specs.Conditions.{bucketsTooShort, tooShort, tornRecord, tornBucket}
 use Rattle.rules.proofs.Tests.{neither}

@@ -11,8 +11,7 @@ use borrow.Author.Tests.{ltb-true, eqb-true, eqb-false}
 use Rattle.rules.specs.declared.Settings.{Settings}
 use Rattle.rules.specs.Lists.{has, upto}
 use Rattle.rules.specs.Settings.{Histogram, Tables, needed, oneReference}
-use Rattle.rules.specs.Reference.{Sample, Profile, under, scaledDistance, rescaled, countAt}
-use Rattle.rules.specs.Reference.{thresholdAt, recordIn, bucketFor, withinLimit, step}
+use Rattle.rules.specs.Reference.{Sample, Profile, under, scaledDistance, rescaled, countAt, thresholdAt, recordIn, bucketFor, withinLimit, step}
 use Rattle.rules.specs.Curve.{rawTo}
 use Rattle.rules.specs.Layout.{freshTables}
 use Rattle.rules.proofs.Tests.{cases}

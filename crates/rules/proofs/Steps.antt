@@ -12,8 +12,7 @@ use lib.Dec.{ltb}
 use borrow.Author.Tests.{ltb-true, ltb-false, lt-ltb, le-ltb}
 use Rattle.rules.specs.Lists.{keep, has, upto, erase, without}
 use Rattle.rules.specs.Settings.{Histogram}
-use Rattle.rules.specs.Reference.{Sample, Profile, firstPlace, under, largest, keepBelow, lowered, recordIn}
-use Rattle.rules.specs.Reference.{bucketFor, withinLimit, skipped, first, again, sampledStep, step}
+use Rattle.rules.specs.Reference.{Sample, Profile, firstPlace, under, largest, keepBelow, lowered, recordIn, bucketFor, withinLimit, skipped, first, again, sampledStep, step}
 use Rattle.rules.specs.History.{recency, different, distance, Largest}
 use Rattle.rules.proofs.Tests.{cases}
 use Rattle.rules.proofs.Lists.{keep-keep, keep-length, keep-narrow, without-out, has-keep}

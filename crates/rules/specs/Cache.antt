@@ -1,4 +1,5 @@
--- A least-recently-used cache of a fixed number of blocks, all equal, fed a trace: the right-hand side of demand 2. No tracker is named here. Assumes nothing.
+-- A least-recently-used cache of a fixed number of blocks, all equal, fed a trace: the right-hand side of demand 2. It names no
+-- tracker. Assumes nothing.
 use Prim.Native.Nat.{ℕ, _+_}
 use mathlib.Core.Bool.{Bool, cond}
 use mathlib.Core.List.{List, [], _∷_}

@@ -1,4 +1,5 @@
--- Document 01, "Refusal numbers": each call as one function from what it is handed to what it says and what it leaves, by its order of refusals. Assumes nothing.
+-- Document 01, "Refusal numbers": each call as one function from what it is handed to what it answers and leaves, by its order of
+-- refusals. Assumes nothing.
 use Prim.Native.Nat.{ℕ}
 use mathlib.Core.List.{List, [], _∷_}
 use lib.Dec.{eqb, ltb}

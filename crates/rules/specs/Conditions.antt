@@ -1,4 +1,5 @@
--- Document 01, "Refusal numbers": the condition of each refusal. 1 is `outOfRange` in Settings, 7 and 8 are in Events, 6 and 9 in the order of a point in Calls. Assumes nothing.
+-- Document 01, "Refusal numbers": the condition of each refusal. 1 is `outOfRange` in Settings, 7 and 8 are in Events, 6 and 9
+-- in the order of a point in Calls. Assumes nothing.
 use Prim.Native.Nat.{ℕ, zero, suc, _*_}
 use mathlib.Core.Bool.{Bool, false, not, cond, _||_}
 use lib.Dec.{eqb, ltb}
@@ -56,9 +57,9 @@ tornReport references t buckets g = tornTo references t (needed buckets) g
 -- the single bucket that a reference to x would record in; none if it would be Skipped
 abbrev pub tornFor : (x : ℕ) → Tracker → Bool
 tornFor x s =
-    cond (under (hashFor (s .kept .settings)) (s .kept .threshold) x)
-    (tornAt (s .kept .numbers .references) (s .kept .threshold) (bucketFor (profileOf (s .kept .settings)) (s .kept .threshold) (firstPlace x (liveOf s))) (s .tables .histogram))
-    false
+    let t = s .kept .threshold in
+    let bucket = bucketFor (profileOf (s .kept .settings)) t (firstPlace x (liveOf s)) in
+    cond (under (hashFor (s .kept .settings)) t x) (tornAt (s .kept .numbers .references) t bucket (s .tables .histogram)) false
 
 -- ---- 4 Full
 

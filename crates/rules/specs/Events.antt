@@ -30,7 +30,8 @@ abbrev pub eventBytes : Event → List ℕ
 eventBytes (Location x) = 1 ∷ bytesOf 8 x
 eventBytes (Span offset bytes) = 2 ∷ (bytesOf 8 offset ++ bytesOf 4 bytes)
 eventBytes Restart = 3 ∷ []
-eventBytes (Setup b) = 4 ∷ (bytesOf 4 (b .limit) ++ (bytesOf 4 (b .start) ++ (bytesOf 4 (b .width) ++ (bytesOf 4 (b .buckets) ++ bytesOf 1 (b .kind)))))
+eventBytes (Setup b) =
+    4 ∷ (bytesOf 4 (b .limit) ++ (bytesOf 4 (b .start) ++ (bytesOf 4 (b .width) ++ (bytesOf 4 (b .buckets) ++ bytesOf 1 (b .kind)))))
 
 -- how many bytes an event takes
 abbrev pub eventLength : Event → ℕ

@@ -73,7 +73,12 @@ counted (again d) n = record { references = n .references + 1; sampled = n .samp
 -- a step's list over the front of the location table, its buckets in theirs, its threshold and live number in the record
 abbrev pub stored : Stepped → Tracker → Tracker
 stored r s = record {
-  kept = record { settings = s .kept .settings; threshold = r .left .threshold; live = length (r .left .live); numbers = counted (r .reply) (s .kept .numbers) };
+  kept = record {
+    settings = s .kept .settings;
+    threshold = r .left .threshold;
+    live = length (r .left .live);
+    numbers = counted (r .reply) (s .kept .numbers);
+  };
   tables = record { locations = over (r .left .live) (s .tables .locations); histogram = r .left .histogram };
 }
 

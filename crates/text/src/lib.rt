@@ -8,8 +8,8 @@ ghost use mathlib.Core.List.{_++_};
 ghost use Prim.Native.Nat.{_+_, _≤_};
 ghost use lib.ListN.{length};
 ghost use Rattle.rules.specs.Answers.{pointResult};
-ghost use Rattle.rules.specs.Calls.{ownPoint};
 ghost use Rattle.rules.specs.Layout.{bucketsBefore};
+ghost use Rattle.rules.specs.Calls.{ownPoint};
 ghost use Rattle.text.specs.Text.{decimal, newline, firstLine, pointLine, lineOf, linesTo, pointsOr, Adds, placed, curveIn, refusedIn};
 
 // ---- text in a buffer, behind the first bytes of it

@@ -45,7 +45,7 @@ plotWords p = p .size ∷ p .ratio ∷ []
 -- the kind, the bytes taken, then the numbers of the body, and zeros
 abbrev pub kindAndBody : Event → (taken : ℕ) → List ℕ
 kindAndBody (Location x) n = 1 ∷ n ∷ x ∷ 0 ∷ 0 ∷ 0 ∷ 0 ∷ []
-kindAndBody (Span offset length) n = 2 ∷ n ∷ offset ∷ length ∷ 0 ∷ 0 ∷ 0 ∷ []
+kindAndBody (Span offset bytes) n = 2 ∷ n ∷ offset ∷ bytes ∷ 0 ∷ 0 ∷ 0 ∷ []
 kindAndBody Restart n = 3 ∷ n ∷ 0 ∷ 0 ∷ 0 ∷ 0 ∷ 0 ∷ []
 kindAndBody (Setup b) n = 4 ∷ n ∷ b .limit ∷ b .start ∷ b .width ∷ b .buckets ∷ b .kind ∷ []
 
