@@ -1,6 +1,6 @@
 /*
- * A plugin of qemu's user-mode emulator: counts the instructions that a program executes, and says 'instructions N' on standard
- * error when it exits. The same program on the same input gives the same number on every run, however busy the machine.
+ * A plugin for qemu's user-mode emulator: counts the instructions that a program executes, and prints 'instructions N' on standard
+ * error when it exits. The same program on the same input gives the same number on every run, however busy the machine is.
  *
  * Debian's qemu-user comes without the header for plugins, so the part of version 1 of that interface that is used is declared here.
  */
@@ -28,8 +28,8 @@ int qemu_plugin_version = 1;
 static uint64_t instructions;
 
 /*
- * From now on, each instruction of the block adds 1 when it is executed. One number for the whole block would be less work, and
- * wrong: of a block that ends where the next instruction crosses a page, qemu 7.2 counts that one too.
+ * From now on, each instruction of the block adds 1 when it is executed. Adding one number for the whole block would be less work, but
+ * wrong: if a block ends because the next instruction crosses a page, qemu 7.2 counts that instruction too.
  */
 static void on_translation(plugin_id id, struct qemu_plugin_tb *block)
 {

@@ -1,5 +1,5 @@
-/* Stands before the system's read and write in a program that it is loaded into: every other read is interrupted before it takes a
- * byte, and a write takes at most seven. When the program ends, standard error says how often that was. */
+/* Replaces the system's read and write in a program that it is loaded into: every other read is interrupted before it takes a
+ * byte, and a write takes at most seven. When the program exits, standard error says how often that happened. */
 #include <errno.h>
 #include <stdio.h>
 #include <sys/syscall.h>

@@ -3,13 +3,13 @@
 #
 # Compilers and packages have the same names on both processors. On Arm (aarch64) the packages marked amd64 are of a foreign
 # architecture, and what was built runs under qemu's emulator. ROCKGINGHAM_EMULATOR=qemu-x86_64 uses the emulator on x86-64
-# too, to try there what an Arm machine runs.
+# too, to test there what an Arm machine runs.
 
 case $(uname -m) in
 x86_64) emulator=${ROCKGINGHAM_EMULATOR:-} ;;
 *) emulator=${ROCKGINGHAM_EMULATOR:-qemu-x86_64} ;;
 esac
-# The tests and the bench start programs themselves.
+# Exported, since the tests and the bench start programs themselves.
 export ROCKGINGHAM_EMULATOR=$emulator
 
 compiler=x86_64-linux-gnu-gcc
@@ -21,7 +21,7 @@ run() { ${emulator:+"$emulator"} "$@"; }
 say() { echo "$0: $*" >&2; }
 fail() { say "$*"; exit 1; }
 
-# ---- What is needed. For each thing: whether it is there, and the Debian packages that bring it.
+# ---- What is needed. For each thing: whether it is there, and the Debian packages that provide it.
 
 links() { # COMPILER WORDS...
     local program status=0
@@ -40,7 +40,7 @@ have_c() { links "$compiler"; }
 packages_murmurhash='libmurmurhash-dev:amd64'
 have_murmurhash() { links "$compiler" -lmurmurhash; }
 
-# The Rust of the path, if it has the standard library of x86-64, or else Debian's. `rust` is the folder of its commands.
+# The Rust on the path, if it has the standard library for x86-64, otherwise Debian's. `rust` is the directory of its commands.
 packages_rust='cargo rustc libstd-rust-dev:amd64'
 have_rust() {
     local folder libraries
@@ -54,11 +54,11 @@ have_rust() {
     return 1
 }
 
-# Instructions are counted by a plugin, which is built for the processor at hand.
+# Instructions are counted by a plugin, which is built for the machine's own processor.
 packages_count='qemu-user gcc libc6-dev'
 have_count() { [ -n "$(command -v qemu-x86_64)" ] && links cc; }
 
-# Installs what is missing of the named things, and nothing else.
+# Installs those of the named things that are missing, and nothing else.
 need() { # THING...
     local packages complaint=''
     packages=$(missing "$@")
@@ -70,7 +70,7 @@ need() { # THING...
     [ -z "$packages" ] || fail "could not install:" $packages "($complaint)"
 }
 
-# The packages of the named things that are not there.
+# Prints the packages that are not installed, of those named things that are missing.
 missing() { # THING...
     local thing package packages
     for thing in "$@"; do
@@ -83,7 +83,7 @@ missing() { # THING...
 
 installed() { dpkg-query -W -f '${db:Status-Status}\n' "$1" 2>/dev/null | grep -qx installed; }
 
-# Standard input may be a trace, so nothing here reads it.
+# Standard input may be a trace, so apt-get must not read it.
 get() { # WORDS-FOR-APT-GET...
     local said
     if said=$(DEBIAN_FRONTEND=noninteractive apt-get -q "$@" </dev/null 2>&1); then return 0; fi
@@ -99,7 +99,7 @@ install_packages() { # PACKAGE...
 
 # ---- What is built.
 
-# Proves and builds again what is missing or older than a source. Standard error shows the progress.
+# Proves and builds a file again if it is missing or older than a source. Progress is shown on standard error.
 made() { # FILE WORDS-FOR-RT...
     local file=$1 log=target/made.log begun
     if [ -e "$file" ] && [ -z "$(find crates crates.txt -newer "$file" -print -quit)" ]; then return 0; fi
@@ -113,7 +113,7 @@ made() { # FILE WORDS-FOR-RT...
 made_program() { made target/bin/curve check curve; }
 made_library() { made target/staticlib/libdriver.a staticlib driver; }
 
-# Builds the Rust program of a folder. `built` is where it stands.
+# Builds the Rust program in a folder. `built` is its path.
 build_rust() { # FOLDER NAME
     have_rust
     RUSTC=$rust/rustc CARGO_TARGET_X86_64_UNKNOWN_LINUX_GNU_LINKER=$compiler \

@@ -7,9 +7,9 @@ use std::process::Command;
 
 /// One side of a hot path, set up and ready.
 trait Work {
-    /// So many operations; a sum over what they answer.
+    /// Performs this many operations, and returns a sum over their answers.
     fn run(&mut self, count: usize) -> u64;
-    /// The record's words and the tables, where there are any.
+    /// The record's words and the tables, if there are any.
     fn state(&self) -> Vec<u64>;
 }
 
@@ -41,7 +41,7 @@ fn state_of(engine: &impl Engine) -> Vec<u64> {
     state
 }
 
-/// A function that the compiler cannot see through, so that it is called each time.
+/// Hides a function from the compiler, so that it is called each time.
 fn unseen<F: Copy>(function: F) -> F {
     // SAFETY: a local value is read.
     unsafe { std::ptr::read_volatile(&function) }
@@ -53,7 +53,7 @@ impl Work for Hashes {
     fn run(&mut self, count: usize) -> u64 {
         let hash = unseen(self.0);
         (0..count as u64).fold(0u64, |sum, x| {
-            // SAFETY: two numbers are handed over.
+            // SAFETY: the function is passed two numbers.
             sum.wrapping_add(unsafe { hash(1, x.wrapping_mul(0x9e37_79b9_7f4a_7c15)) })
         })
     }
@@ -73,7 +73,7 @@ fn hash() -> HotPath {
     }
 }
 
-/// References; `next` says the location from the table of locations and the turn.
+/// References; `next` chooses the location from the table of locations and the turn.
 struct References<E, N> {
     engine: E,
     turn: usize,
@@ -222,7 +222,7 @@ impl Work for Reads {
         let (mut at, mut sum, mut event) = (0, 0u64, [0u64; 7]);
         while at < bytes.len() {
             let left = &bytes[at..];
-            // SAFETY: the bytes come with their own length; the words are seven.
+            // SAFETY: the bytes are passed with their own length, and there are seven words.
             let number = unsafe { read(event.as_mut_ptr(), left.as_ptr(), left.len()) };
             sum = sum.wrapping_add(number ^ event[0] ^ event[2] ^ event[3]);
             at += event[1] as usize;
@@ -264,7 +264,7 @@ pub fn hot_paths() -> Vec<HotPath> {
     ]
 }
 
-/// A number for a whole state.
+/// One number for a whole state.
 fn digest(state: &[u64]) -> u64 {
     state.iter().fold(0, |sum, x| {
         (sum.rotate_left(5) ^ x).wrapping_mul(0x9e37_79b9_7f4a_7c15)
@@ -272,7 +272,7 @@ fn digest(state: &[u64]) -> u64 {
 }
 
 impl HotPath {
-    /// So many operations of one side alone, to be counted: prints what both sides must agree on.
+    /// Performs this many operations of one side alone, to be counted, and prints what both sides must agree on.
     pub fn work(&self, side: &str, count: usize) {
         let mut work = match side {
             "proved" => (self.proved)(),
@@ -296,7 +296,7 @@ impl HotPath {
         cost
     }
 
-    /// Each side in a process of its own, this program under the counter.
+    /// Runs each side in its own process: this program under the counter.
     fn counted(&self, number: usize, counter: &Counter) -> Cost {
         let own = std::env::current_exe().expect("this program's own path");
         let side = |command: &mut Command, side: &str, count: usize| {
@@ -311,7 +311,7 @@ impl HotPath {
         )
     }
 
-    /// The row of the table: timed where a size is given, counted where a counter is.
+    /// The row of the table: timed if a size is given, counted if a counter is.
     pub fn row(&self, number: usize, size: Option<Size>, counter: Option<&Counter>) -> Row {
         Row {
             name: self.name.clone(),

@@ -1,4 +1,4 @@
-//! The two sides of the comparison, called alike.
+//! The two sides of the comparison, called in the same way.
 
 use crate::interface;
 use crate::plain::{self, Answer, Point, Record, Settings, Tables};
@@ -7,7 +7,7 @@ use crate::proved;
 pub type Hash = unsafe extern "C" fn(kind: u64, location: u64) -> u64;
 pub type Read = unsafe extern "C" fn(event: *mut u64, bytes: *const u8, length: usize) -> u64;
 
-/// A tracker over its own tables, and the functions beside it.
+/// A tracker with its own tables, and the functions that need no tracker.
 pub trait Engine {
     const HASH: Hash;
     const READ: Read;
@@ -104,7 +104,7 @@ impl Engine for Plain {
     }
 }
 
-/// The plain reading, called as the library's is: words out, a number back.
+/// The plain reading, called like the library's: it writes the words and returns a number.
 ///
 /// # Safety
 /// `event` points to seven words, `bytes` to `length` bytes.

@@ -1,5 +1,5 @@
 //! The proved code against plain Rust doing the same work: times, in one process, as ratios of medians, and executed instructions,
-//! counted under an emulator. `bench/run` builds and runs it. It fails where the two sides differ in what they answer, never on a cost.
+//! counted under an emulator. `bench/run` builds and runs it. It fails if the two sides give different answers, never because of a cost.
 //!
 //! usage: bench (full | small | none) [COUNTER...]
 //!                                    (what is timed; the command that counts instructions, if they are to be counted)

@@ -1,9 +1,9 @@
-//! Two pieces of work that do the same: timed in turns, or counted in executed instructions, and the ratio of the two.
+//! Compares two pieces of work that do the same: timed in turns, or counted in executed instructions, with the ratio of the two.
 
 use std::process::Command;
 use std::time::{Duration, Instant};
 
-/// How much is timed: the gate's small sizes, or the full ones. What is counted has one size.
+/// How much is timed: the gate's small sizes, or the full ones. Counting has only one size.
 #[derive(Clone, Copy)]
 pub struct Size {
     pub rounds: usize,
@@ -19,7 +19,7 @@ pub const FULL: Size = Size {
     scale: 1,
 };
 
-/// What one operation costs on both sides.
+/// The cost of one operation on both sides.
 #[derive(Clone, Copy)]
 pub struct Cost {
     pub proved: f64,
@@ -44,7 +44,7 @@ fn timed<T>(work: impl FnOnce() -> T) -> (Duration, T) {
     (begun.elapsed(), result)
 }
 
-/// Times both in turns, `count` operations a round, and stops if what they answer differs.
+/// Times both in turns, `count` operations per round, and panics if their results differ.
 pub fn nanoseconds<T: PartialEq + std::fmt::Debug>(
     name: &str,
     rounds: usize,
@@ -67,11 +67,11 @@ pub fn nanoseconds<T: PartialEq + std::fmt::Debug>(
     }
 }
 
-/// What counts the instructions of a program: a command to put before it, which says `instructions N` on standard error at its end.
+/// Counts the instructions of a program: a command to put before it, which prints `instructions N` on standard error at its end.
 pub struct Counter(pub Vec<String>);
 
 impl Counter {
-    /// The instructions that a program executes, and what it prints. `complete` names the program, its words and its input.
+    /// The instructions that a program executes, and what it prints. `complete` adds the program, its arguments and its input.
     fn run(&self, complete: &dyn Fn(&mut Command)) -> (u64, Vec<u8>) {
         let mut command = Command::new(&self.0[0]);
         command.args(&self.0[1..]);
@@ -88,8 +88,8 @@ impl Counter {
         }
     }
 
-    /// Runs both sides with N and with 2 N operations, and stops if what they print differs. What one operation costs is the
-    /// difference of a side's two runs, divided by N: what a run costs besides is in both.
+    /// Runs both sides with N and with 2 N operations, and panics if they print different things. The cost of one operation is the
+    /// difference between a side's two runs, divided by N: all other costs of a run are in both.
     pub fn instructions(
         &self,
         name: &str,

@@ -1,5 +1,5 @@
 //! Plain Rust doing the same work as the proved code: the same tests on the record, the same tables, the same answers.
-//! Written for speed, as a driver's author would.
+//! Written for speed, as the author of a driver would write it.
 
 pub const FULL_RATE: u64 = 1 << 24;
 
@@ -65,7 +65,7 @@ fn hash(kind: u64, location: u64) -> u64 {
     x % FULL_RATE
 }
 
-/// The hash, called as the library's is.
+/// The hash, called like the library's.
 pub extern "C" fn hash_of(kind: u64, location: u64) -> u64 {
     hash(kind, location)
 }
@@ -283,7 +283,7 @@ pub fn point(
     })
 }
 
-/// The first event of the bytes, with how many it took.
+/// The first event of the bytes, with the number of bytes it took.
 #[inline(always)]
 pub fn read(bytes: &[u8]) -> Result<(Event, usize), u64> {
     let word = |at: usize| u32::from_le_bytes(bytes[at..at + 4].try_into().unwrap());

@@ -1,4 +1,4 @@
-//! The program that prints a curve against a plain one, on the same trace.
+//! The program that prints a curve, compared with a plain one on the same trace.
 
 use crate::measure::{nanoseconds, Cost, Counter, Row, Size};
 use crate::plain::{self, Record, Settings, Tables};
@@ -7,7 +7,7 @@ use std::io::{self, Read, Write};
 use std::path::{Path, PathBuf};
 use std::process::Command;
 
-/// A made trace of so many events: locations over a few million blocks, every fourth a span.
+/// A made-up trace of this many events: locations over a few million blocks, every fourth a span.
 pub fn trace(events: usize) -> Vec<u8> {
     let mut bytes = Vec::with_capacity(events * 10);
     let mut state: u64 = 0x2545_f491_4f6c_dd1d;
@@ -49,7 +49,7 @@ pub fn plain_curve() {
     }
 }
 
-/// Feeds standard input; a refusal comes with its place.
+/// Feeds standard input; a refusal is returned with its place.
 fn feed(k: &mut Record, t: &mut Tables) -> Result<(), (u64, u64)> {
     let mut input = io::stdin().lock();
     let mut buffer = vec![0u8; 1 << 16];
@@ -101,7 +101,7 @@ fn print_curve(k: &Record, t: &Tables) {
         .expect("a write that works");
 }
 
-/// A trace in a file of its own, which goes with it.
+/// A trace in its own file, which is removed with it.
 struct TraceFile(PathBuf);
 
 impl TraceFile {
@@ -126,7 +126,7 @@ impl Drop for TraceFile {
 const TIMED: usize = 10_000_000;
 const COUNTED: usize = 1_000_000;
 
-/// What a program prints of a trace.
+/// What a program prints for a trace.
 fn printed(mut command: Command, trace: &TraceFile) -> String {
     let end = command.stdin(trace.open()).output();
     let output = end.expect("the program can be run").stdout;
@@ -149,7 +149,7 @@ fn timed(size: Size, curve: &Path, own: &Path) -> Cost {
     )
 }
 
-/// Of a trace and of one that is twice as long and begins with it.
+/// Counts on a trace, and on one that is twice as long and begins with it.
 fn counted(counter: &Counter, curve: &Path, own: &Path) -> Cost {
     let traces = [TraceFile::new(COUNTED), TraceFile::new(2 * COUNTED)];
     let input = |events: usize| traces[events / COUNTED - 1].open();

@@ -28,7 +28,7 @@ pub fn setup(given: Settings, t: &mut Tables) -> Result<[u64; 9], u64> {
         buckets: given.buckets,
         hash_kind: given.hash_kind,
     };
-    // SAFETY: each pointer comes with its own length, and no two of them overlap.
+    // SAFETY: each pointer is passed with its own length, and no two of them overlap.
     let refusal = unsafe {
         rockgingham_setup(
             record.as_mut_ptr(),
@@ -51,7 +51,7 @@ pub fn setup(given: Settings, t: &mut Tables) -> Result<[u64; 9], u64> {
 #[inline(always)]
 pub fn refer(record: &mut [u64; 9], location: u64, t: &mut Tables) -> Result<Answer, u64> {
     let mut answer = [0; 2];
-    // SAFETY: each pointer comes with its own length, and no two of them overlap.
+    // SAFETY: each pointer is passed with its own length, and no two of them overlap.
     let refusal = unsafe {
         rockgingham_refer(
             record.as_mut_ptr(),
@@ -85,7 +85,7 @@ pub fn point(
         buckets: believed.0,
         width: believed.1,
     };
-    // SAFETY: each pointer comes with its own length, and no two of them overlap.
+    // SAFETY: each pointer is passed with its own length, and no two of them overlap.
     let refusal = unsafe {
         rockgingham_point(
             record.as_ptr(),

@@ -1,11 +1,11 @@
-//! Calls of the static library on damaged records, tables of wrong lengths and random contents, against the model.
+//! Calls of the static library, compared with the model: damaged records, and tables of wrong lengths and random contents.
 
 use crate::driver::{self, number_of, Driver, Lent};
 use crate::model::*;
 use crate::random::Random;
 use crate::tally::Tally;
 
-/// What every function must have answered, each at least once.
+/// The answers that each function must have given, each at least once.
 pub const WANTED: &[(&str, &[&str])] = &[
     ("hash", &["kind 0", "kind 1", "kind 2"]),
     ("setup", &["accepted", "Settings", "Tables"]),
@@ -86,7 +86,7 @@ fn some_record(random: &mut Random) -> Record {
     }
 }
 
-/// A location whose hash of kind 0 is often small, so that repeats and samples are met.
+/// A location whose hash of kind 0 is often small, so that repeats and samples occur.
 fn some_location(random: &mut Random) -> u64 {
     match random.below(6) {
         0 => random.any(),
@@ -95,7 +95,7 @@ fn some_location(random: &mut Random) -> u64 {
     }
 }
 
-/// A record with tables that fit it, and random contents that no call would refuse.
+/// A record with tables that fit it, and random contents that are not torn.
 pub fn some_tracker(random: &mut Random) -> Tracker {
     let record = some_record(random);
     let needed = record.settings.buckets + 2;
@@ -130,7 +130,7 @@ pub fn some_tracker(random: &mut Random) -> Tracker {
     }
 }
 
-/// A number near an edge of something.
+/// A number near some limit.
 fn edge(random: &mut Random, record: Record) -> u64 {
     let settings = record.settings;
     let near = [
@@ -240,7 +240,7 @@ fn given_settings(random: &mut Random) -> Settings {
     with_zeros(random, record.settings)
 }
 
-/// The settings, at times with zeros for defaults.
+/// The settings, sometimes with zeros for defaults.
 pub fn with_zeros(random: &mut Random, mut given: Settings) -> Settings {
     let zero = |random: &mut Random, number: &mut u64| {
         if random.one_in(8) {

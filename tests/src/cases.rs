@@ -1,4 +1,4 @@
-//! The twelve cases of document 01's bench table, through the program or the library. The answers are the document's own.
+//! The twelve cases of document 01's bench table, run on the program or the library. The expected answers are the document's own.
 
 use crate::driver::{self, Driver, Lent};
 use crate::model::{Event, Record, Settings, Shape, Tracker, P};
@@ -23,7 +23,7 @@ fn is<T: PartialEq + std::fmt::Debug>(what: &str, got: T, expected: T) -> Result
     }
 }
 
-/// A driver set up with these settings, its tables just long enough.
+/// A driver set up with these settings and with tables that are just long enough.
 fn set_up(given: Settings) -> Result<Driver, String> {
     let settings = given.with_defaults();
     let needed = settings.buckets as usize + 2;
@@ -166,7 +166,7 @@ fn h() -> Result<(), String> {
     driver.compare(&long)
 }
 
-/// With T0 1 only a location whose hash is 0 is sampled.
+/// With a T0 of 1, only a location whose hash is 0 is sampled.
 fn i() -> Result<(), String> {
     is("the kind 1 hash of 0", driver::hash(1, 0), 0)?;
     let bytes = input(Event::Setup(0, 1, 0, 0, 1), &[0]);

@@ -1,4 +1,4 @@
-//! The static library, called as C calls it. Every lent piece stands between guard entries, which are compared too.
+//! The static library, called as C calls it. Everything lent to it lies between guard entries, which are compared too.
 
 use crate::interface::*;
 use crate::model::{Event, Record, Refusal, Reply, Settings, Shape, Tracker};
@@ -36,7 +36,7 @@ impl<T: Copy + PartialEq> Lent<T> {
         self.all[GUARDS..].as_ptr()
     }
 
-    /// Whether these entries stand inside and the guards are whole.
+    /// Whether the entries inside are these and the guards are intact.
     pub fn holds(&self, inside: &[T]) -> bool {
         let end = self.all.len() - GUARDS;
         let whole = |guards: &[T]| guards.iter().all(|g| *g == self.guard);
@@ -70,13 +70,13 @@ pub struct Driver {
 const GUARD: u64 = 0x5bd1_e995_1234_5678;
 const OUTPUT: u64 = 0x0dd0_dead_beef_0bad;
 
-/// What a call answered: the number, and the whole of the array for its values.
+/// What a call returned: the number, and the whole array for its values.
 pub struct Said<T> {
     pub number: u64,
     pub values: Lent<T>,
 }
 
-/// The entries of an array for values before a call.
+/// The contents of an array for values before a call.
 pub fn untouched<const N: usize>() -> [u64; N] {
     [OUTPUT; N]
 }
@@ -120,7 +120,7 @@ impl Driver {
         Ok(())
     }
 
-    // Each call below lends arrays of the header's lengths and tables with their true lengths, none overlapping.
+    // Each call below lends arrays of the lengths that the header gives and tables with their true lengths. None of them overlap.
 
     pub fn setup(&mut self, given: Settings) -> u64 {
         let settings = CSettings {
@@ -270,7 +270,7 @@ pub fn event_words(event: Event, taken: usize) -> [u64; 7] {
     }
 }
 
-/// The number that a call must answer.
+/// The number that a call must return.
 pub fn number_of<T>(answer: &Result<T, Refusal>) -> u64 {
     match answer {
         Ok(_) => 0,

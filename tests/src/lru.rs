@@ -19,7 +19,7 @@ impl Cache {
         }
     }
 
-    /// Whether the block was there.
+    /// Refers to the block, and returns whether it was in the cache.
     fn touch(&mut self, block: u64) -> bool {
         self.clock += 1;
         let before = self.last_use.insert(block, self.clock);
@@ -36,7 +36,7 @@ impl Cache {
     }
 }
 
-/// How many references of the trace a cache of this many blocks misses.
+/// How many references of the trace miss in a cache of this many blocks.
 pub fn misses(trace: &[u64], size: usize) -> u64 {
     let mut cache = Cache::new(size);
     let mut missed = 0;

@@ -117,7 +117,7 @@ fn program(sizes: &Sizes, seed: u64) -> Result<(), String> {
     Ok(())
 }
 
-/// The tests that go by the model, smaller: those that notice that it differs.
+/// Runs the tests that use the model, at smaller sizes, and returns those that notice that it differs.
 fn noticed_by(model: &Model, seed: u64) -> Vec<&'static str> {
     let mut tally = Tally::default();
     let tests = [
@@ -143,7 +143,7 @@ fn noticed_by(model: &Model, seed: u64) -> Vec<&'static str> {
     noticing.map(|(name, _)| *name).collect()
 }
 
-/// Each wrong model must be noticed, and the right one must not be.
+/// Every wrong model must be noticed, and the right one must pass.
 fn wrong_models(seed: u64) -> Result<(), String> {
     let against_right = noticed_by(&Model::right(), seed);
     if !against_right.is_empty() {

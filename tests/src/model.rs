@@ -1,14 +1,14 @@
-//! Document 01 in plain Rust, naive, from its text alone. It shares no code and no data structure with the proved crates: numbers are
-//! wide, lists are built anew at each step, and nothing is kept that the text does not name.
+//! A naive model of document 01 in plain Rust, written from its text alone. It shares no code and no data structure with the proved
+//! crates: numbers are wide, lists are rebuilt at each step, and nothing is kept that the text does not name.
 //!
-//! A model may hold one error on purpose (`Wrong`). The tests must notice each.
+//! A model may contain one deliberate error (`Wrong`). The tests must notice each.
 
 use std::fmt::Write;
 
 pub const P: u64 = 16_777_216;
 pub const MOST_REFERENCES: u64 = 4_294_967_295;
 
-/// Errors that look right, and programs that the promises are to show out.
+/// Errors that look right, and programs that the promises must rule out.
 #[derive(Clone, Copy, Debug, PartialEq, Eq)]
 pub enum Wrong {
     // document 01, "Errors that look right"
@@ -26,7 +26,7 @@ pub enum Wrong {
     InventsReferences,
     InventsSampled,
     InventsLive,
-    // further readings that document 01 shuts out
+    // other readings that document 01 rules out
     LastOccurrence,
     BothOccurrences,
     ThresholdMayRise,
@@ -47,7 +47,7 @@ pub enum Wrong {
     RefusalAtNextEvent,
     BucketsBeforeStale,
     HashCut,
-    // a refusal judged before the one that stands just above it in document 01's order
+    // a refusal judged before the one that comes just before it in document 01's order
     TablesBeforeSettings,
     RestartTablesBeforeRecord,
     ReferTablesBeforeRecord,
@@ -58,13 +58,13 @@ pub enum Wrong {
     PointBeforeStale,
     BucketsBeforePoint,
     EmptyBeforeBuckets,
-    // the same for the pair of doubles alone
+    // the same, only for the pair of doubles
     PlotTablesBeforeRecord,
     PlotStaleBeforeTables,
     PlotPointBeforeStale,
     PlotBucketsBeforePoint,
     PlotEmptyBeforeBuckets,
-    // the same for reading, which setup follows
+    // the same for reading, and for the setup that follows it
     KindBeforeNoBytes,
     ShortBeforeKind,
     SettingsBeforeShort,
@@ -124,7 +124,7 @@ pub const ALL_WRONG: [Wrong; 51] = [
     Wrong::SettingsBeforeShort,
 ];
 
-/// For each two neighbours of a call's refusals, the wrong model that has them the other way round.
+/// For each pair of neighbours among a call's refusals, the wrong model that swaps them.
 pub const SETUP_SWAPS: [Wrong; 1] = [Wrong::TablesBeforeSettings];
 pub const RESTART_SWAPS: [Wrong; 1] = [Wrong::RestartTablesBeforeRecord];
 pub const REFER_SWAPS: [Wrong; 3] = [
@@ -148,7 +148,7 @@ pub const PLOT_SWAPS: [Wrong; 5] = [
 ];
 pub const READ_SWAPS: [Wrong; 2] = [Wrong::KindBeforeNoBytes, Wrong::ShortBeforeKind];
 
-/// Why a call is refused. Torn stands in three variants, so that the tests can count each cause.
+/// Why a call is refused. Torn has three variants, so that the tests can count each cause.
 #[derive(Clone, Copy, Debug, PartialEq, Eq, PartialOrd, Ord)]
 pub enum Refusal {
     Settings,
@@ -341,12 +341,12 @@ impl Model {
         self.wrong == Some(wrong)
     }
 
-    /// A model that refuses everything ends its calls here.
+    /// A model that refuses everything refuses its calls here.
     fn unless_all_refused(&self, refusal: Refusal) -> Result<(), Refusal> {
         refuse_if(self.is(Wrong::RefusesEverything), refusal)
     }
 
-    /// The first refusal in this order, or in that of a wrong model which swaps two neighbours.
+    /// The first refusal in this order, or in the order of a wrong model that swaps two neighbours.
     fn judge<const N: usize>(
         &self,
         mut judges: [Judge; N],
@@ -429,7 +429,7 @@ impl Model {
         Ok(())
     }
 
-    /// Whether a bucket is fit to be recorded in or reported.
+    /// Whether a bucket can be recorded in or reported.
     fn bucket_fits(&self, tracker: &Tracker, bucket: usize, references: u64) -> bool {
         let threshold = u64::from(tracker.thresholds[bucket]);
         let zero = threshold == 0 && !self.is(Wrong::ZeroBucketThreshold);
@@ -512,7 +512,7 @@ impl Model {
         record.references == MOST_REFERENCES && !spared
     }
 
-    /// The single bucket that a reference would record in.
+    /// Judges the single bucket that a reference would record in.
     fn judge_bucket(&self, tracker: &Tracker, location: u64) -> Result<(), Refusal> {
         let record = tracker.record;
         if !self.samples(record, location) {
@@ -581,7 +581,7 @@ impl Model {
         Reply::First
     }
 
-    /// The list after a lowering; the threshold is lowered in the record.
+    /// Lowers the threshold in the record, and returns the list after that.
     fn lowered(&self, tracker: &mut Tracker, list: Vec<u64>) -> Vec<u64> {
         let kind = tracker.record.settings.kind;
         let hashes: Vec<u64> = list.iter().map(|l| self.hash(kind, *l)).collect();
@@ -727,7 +727,7 @@ impl Model {
     }
 }
 
-/// The double nearest to a quotient of numbers below 2^53, ties to even, by whole numbers alone.
+/// The double nearest to a quotient of numbers below 2^53, ties to even, computed with integers alone.
 pub fn nearest(above: u64, below: u64) -> f64 {
     if above == 0 {
         return 0.0;
@@ -785,7 +785,7 @@ impl Event {
     }
 }
 
-/// The number that bytes hold, the lowest first.
+/// The number that the bytes hold, lowest byte first.
 fn number(bytes: &[u8]) -> u64 {
     let mut value = 0;
     for byte in bytes.iter().rev() {
@@ -798,7 +798,7 @@ fn small(bytes: &[u8]) -> u32 {
     number(bytes) as u32
 }
 
-/// The length of an event. No other kind has one; a wrong model asks, and is given the longest.
+/// The length of an event. An unknown kind has none; a wrong model asks for it, and gets the longest.
 fn length_of(kind: u8) -> usize {
     match kind {
         1 => 9,

@@ -1,5 +1,5 @@
-//! The order of refusals. Document 01 gives each call its refusals in order, and where several hold the first is the answer. Each two
-//! neighbours are tried in states where both hold and none before them does: if each is answered before the next, the order is right.
+//! The order of refusals. Document 01 lists the refusals of each call in order; if several hold, the first is the answer. Each pair of
+//! neighbours is tried in states where both hold and none before them does. If each is answered before the next, the order is right.
 
 use crate::calls::same_number;
 use crate::driver::{self, number_of, Driver, Lent};
@@ -18,7 +18,7 @@ struct Rule {
     make: fn(&mut Random, &mut State),
 }
 
-// The refusals, with document 01's words.
+// The refusals, in document 01's words.
 
 /// 1: a setting outside its range.
 const SETTINGS: Rule = Rule {
@@ -155,7 +155,7 @@ const PROGRAM_TABLES: Rule = Rule {
     make: outgrow_program,
 };
 
-// The orders, with document 01's words. Writing has none: "Writing an event into too few bytes answers 2."
+// The orders, in document 01's words. Writing has none: "Writing an event into too few bytes answers 2."
 
 /// "Setup: 1, 2."
 const SETUP: &[Rule] = &[SETTINGS, SETUP_TABLES];
@@ -176,15 +176,15 @@ const POINT: &[Rule] = &[
     EMPTY,
 ];
 
-/// "Reading: 7 if empty, 8, 7." The first two never hold at once, since no bytes have no kind byte: `few_bytes` tries the first alone.
+/// "Reading: 7 if empty, 8, 7." The first two never hold together: without bytes there is no kind byte. `few_bytes` tries the first.
 const READ: &[Rule] = &[KIND, SHORT];
 
-/// A setup event in the program: "A kind-4 event is read without judging its settings; setup does that." No other event reaches a
-/// refusal of its call there: the record is never torn, and is full only after 2^32 - 1 references.
+/// A setup event in the program: "A kind-4 event is read without judging its settings; setup does that." No other event can be refused
+/// by its call there: the record is never torn, and is full only after 2^32 - 1 references.
 const EVENT: &[Rule] = &[KIND, SHORT, EVENT_SETTINGS, PROGRAM_TABLES];
 
-/// A call: its refusals in order, for each two neighbours the wrong model that swaps them, a state that is often accepted, and the
-/// check that library or program answer this refusal, or none, as the model does.
+/// A call: its refusals in order; for each pair of neighbours, the wrong model that swaps them; a state that is often accepted; and a
+/// check that the library or the program gives this refusal, or none, as the model does.
 struct Call {
     name: &'static str,
     rules: &'static [Rule],
@@ -283,11 +283,11 @@ fn first_held(rules: &[Rule], state: &State) -> Option<usize> {
     rules.iter().position(|rule| (rule.holds)(state))
 }
 
-/// The most draws for one state. It takes more than one if a change undid another, or if the state was refused without any.
+/// The most draws for one state. More than one is needed if a change undoes another, or if the state is refused without any.
 const DRAWS: usize = 200;
 
-/// Three states, each the one before with a change: in the first no refusal holds; in the next the second of two neighbours holds,
-/// and none before it; in the last both do, and none before them. In half of them later refusals may hold too.
+/// Three states, each made from the one before: in the first no refusal holds; in the next the second of two neighbours holds,
+/// and none before it; in the last both do, and none before them. In half of the draws later refusals may hold too.
 fn drawn(call: &Call, first: usize, random: &mut Random) -> Result<[State; 3], String> {
     let (rules, second) = (call.rules, first + 1);
     for _ in 0..DRAWS {
@@ -312,7 +312,7 @@ fn drawn(call: &Call, first: usize, random: &mut Random) -> Result<[State; 3], S
     Err("the two never held at once".to_string())
 }
 
-/// The number that was answered, and the model's answer, are this refusal's, or no refusal's.
+/// Checks that the number returned and the model's answer are those of this refusal, or of no refusal.
 fn check_answer<T>(
     number: u64,
     answer: Result<T, Refusal>,
@@ -329,7 +329,7 @@ fn check_answer<T>(
     }
 }
 
-/// A call of the library answers its number, and whether its array for values is untouched. A refusal touches nothing.
+/// `called` calls the library, and returns its number and whether its array for values is untouched. A refusal must change nothing.
 fn check_library<T>(
     state: &State,
     rule: Option<&Rule>,
@@ -363,7 +363,7 @@ fn check_read(model: &Model, state: &State, rule: Option<&Rule>) -> Result<(), S
     }
 }
 
-/// The program, handed the event behind a few references.
+/// The program, given the event after a few references.
 fn check_program(model: &Model, state: &State, rule: Option<&Rule>) -> Result<(), String> {
     let mut input = Vec::new();
     for location in state.tracker.locations.iter().take(3) {
@@ -385,7 +385,7 @@ fn pair_name(rules: &[Rule], first: usize) -> String {
     format!("{one:?}-{next:?}")
 }
 
-/// Two neighbours of a call's refusals, in so many states.
+/// Tries two neighbours among a call's refusals in this many states.
 fn pair(
     call: &Call,
     first: usize,
@@ -424,7 +424,7 @@ fn every_pair(
     Ok(())
 }
 
-/// No bytes are refused 7, and each unknown kind alone is refused 8.
+/// An empty input is refused 7, and each unknown kind byte alone is refused 8.
 fn few_bytes(model: &Model) -> Result<(), String> {
     let mut state = some_state(&mut Random::new(0));
     state.bytes.clear();
@@ -436,7 +436,7 @@ fn few_bytes(model: &Model) -> Result<(), String> {
     Ok(())
 }
 
-/// The pairs that must have been tried, in the model's names.
+/// The pairs that must have been tried, by the model's names.
 pub const WANTED: &[(&str, &[&str])] = &[
     ("setup", &["Settings-Tables"]),
     ("restart", &["TornRecord-Tables"]),
@@ -475,7 +475,7 @@ pub fn program(model: &Model, seed: u64, inputs: u64, tally: &mut Tally) -> Resu
     every_pair(PROGRAM, model, seed, inputs, tally)
 }
 
-/// Each pair the other way round in the model is noticed at that very pair. The number of pairs.
+/// Swaps each pair in the model, and checks that the swap is noticed at that very pair. Returns the number of pairs.
 pub fn swapped(seed: u64, states: u64) -> Result<usize, String> {
     let mut pairs = 0;
     for call in LIBRARY.iter().chain(PROGRAM) {

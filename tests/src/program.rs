@@ -8,7 +8,7 @@ use std::time::Duration;
 
 const CURVE: &str = concat!(env!("CARGO_MANIFEST_DIR"), "/../target/bin/curve");
 
-/// Made of tests/interrupted.c by `tests/run`.
+/// Built from tests/interrupted.c by `tests/run`.
 const INTERRUPTED: &str = concat!(
     env!("CARGO_MANIFEST_DIR"),
     "/../target/tests/interrupted.so"
@@ -16,15 +16,15 @@ const INTERRUPTED: &str = concat!(
 
 const MORNING: &str = concat!(env!("CARGO_MANIFEST_DIR"), "/../data/morning.trace");
 
-/// The emulator that runs programs for x86-64, where one is needed: tools/x86-64.sh says which.
+/// The emulator that runs programs for x86-64, if one is needed; tools/x86-64.sh chooses it.
 pub fn emulator() -> Option<String> {
     std::env::var("ROCKGINGHAM_EMULATOR")
         .ok()
         .filter(|name| !name.is_empty())
 }
 
-/// A command that runs the program, with a library loaded before the system's. What an emulated program starts is not emulated by
-/// itself, and the emulator must not load the library into itself.
+/// A command that runs the program, with a library loaded before the system's. What an emulated program starts is not emulated
+/// automatically, and the emulator must not load the library into itself.
 fn curve(preloaded: Option<&str>) -> Command {
     match emulator() {
         None => {
@@ -52,7 +52,7 @@ fn start() -> Result<Child, String> {
         .map_err(|error| format!("{CURVE}: {error}"))
 }
 
-/// What the program prints, once its input was written by `feed` on a thread of its own.
+/// What the program prints if `feed` writes its input, on a separate thread.
 fn run(feed: impl FnOnce(&mut dyn Write) + Send) -> Result<String, String> {
     let mut child = start()?;
     let mut input = child.stdin.take().expect("standard input is a pipe");
@@ -76,14 +76,14 @@ fn run(feed: impl FnOnce(&mut dyn Write) + Send) -> Result<String, String> {
     Ok(printed)
 }
 
-/// The input in one piece. A program that refuses an event may stop reading, so that the rest cannot be written.
+/// What the program prints for an input in one piece. If it refuses an event it may stop reading; then the rest cannot be written.
 pub fn printed(bytes: &[u8]) -> Result<String, String> {
     run(|input| {
         let _ = input.write_all(bytes);
     })
 }
 
-/// The input in pieces of these lengths, with a pause after each.
+/// What the program prints for an input in pieces of these lengths, with a pause after each.
 pub fn printed_in_pieces(bytes: &[u8], lengths: &[usize]) -> Result<String, String> {
     run(|input| {
         let mut rest = bytes;
@@ -101,7 +101,7 @@ pub fn printed_in_pieces(bytes: &[u8], lengths: &[usize]) -> Result<String, Stri
     })
 }
 
-/// A read that fails (here of a folder) is no end of the input: nothing is printed, and standard error says why.
+/// A read that fails (here of a directory) is not the end of the input: nothing is printed, and standard error says why.
 pub fn failed_read() -> Result<(), String> {
     let folder = File::open("/").map_err(|error| error.to_string())?;
     let end = curve(None)
@@ -119,7 +119,7 @@ pub fn failed_read() -> Result<(), String> {
     }
 }
 
-/// A trace whose reads are interrupted, and whose output is taken a few bytes at a time, prints the same curve.
+/// The program prints the same curve if its reads are interrupted and its writes take only a few bytes at a time.
 pub fn interrupted() -> Result<(), String> {
     let bytes = std::fs::read(MORNING).map_err(|error| format!("{MORNING}: {error}"))?;
     let expected = printed(&bytes)?;
@@ -147,7 +147,7 @@ pub fn interrupted() -> Result<(), String> {
     }
 }
 
-/// A write that fails (here to a full device) is said on standard error.
+/// A write that fails (here to a full device) is reported on standard error.
 pub fn failed_write() -> Result<(), String> {
     let trace = File::open(MORNING).map_err(|error| format!("{MORNING}: {error}"))?;
     let full = File::options()

@@ -1,9 +1,9 @@
 //! Published MurmurHash3 code, from Debian's libmurmurhash: its x64 128-bit form, made to yield its 64-bit finaliser alone.
 //!
-//! Of 8 bytes and seed 0 that form makes one number s by scrambling the bytes, sets h1 = (s xor 8) + 8 and h2 = 8 + h1, finalises
-//! both to f(h1) and f(h2), and gives f(h1) + f(h2) and then that sum + f(h2). So its output holds f(h1) and f(h2) alone, and the
-//! scrambling (two products and a rotation) can be undone for any h1 that is wanted. `checked` sees that the undoing is right: f of
-//! a number must come out the same as h1's and as h2's of another input, and the finaliser of 0 is 0.
+//! From 8 bytes and seed 0 that form makes one number s by scrambling the bytes, sets h1 = (s xor 8) + 8 and h2 = 8 + h1, finalises
+//! both to f(h1) and f(h2), and outputs f(h1) + f(h2) and then that sum + f(h2). So f(h1) and f(h2) follow from its output, and the
+//! scrambling (two products and a rotation) can be undone for any wanted h1. `checked` checks that it is undone correctly: f of a
+//! number must be the same as h1 of one input and as h2 of another, and the finaliser of 0 must be 0.
 
 use crate::random::Random;
 
@@ -14,7 +14,7 @@ extern "C" {
 const FIRST: u64 = 0x87c37b91114253d5;
 const SECOND: u64 = 0x4cf5ad432745937f;
 
-/// The number whose product with an odd number is 1 modulo 2^64.
+/// The inverse of an odd number modulo 2^64.
 fn inverse(odd: u64) -> u64 {
     let mut found: u64 = 1;
     for _ in 0..6 {
@@ -46,7 +46,7 @@ fn pair(wanted: u64) -> (u64, u64) {
     (out[0].wrapping_sub(second), second)
 }
 
-/// The published finaliser of a number, modulo 2^24, with the undoing checked.
+/// The published finaliser of a number, modulo 2^24, with the check described above.
 pub fn checked(location: u64) -> Result<u64, String> {
     let (direct, _) = pair(location);
     let (_, beside) = pair(location.wrapping_sub(8));
@@ -61,7 +61,7 @@ pub fn checked(location: u64) -> Result<u64, String> {
     Ok(direct % (1 << 24))
 }
 
-/// The locations to try: some fixed ones, then half of them above 2^63.
+/// The locations to try: some fixed ones, then every other one at least 2^63.
 pub fn location(random: &mut Random, case: u64) -> u64 {
     let fixed = [1, 1 << 63, (1 << 63) + 1, u64::MAX, u64::MAX - 1];
     match fixed.get(case as usize) {

@@ -1,4 +1,4 @@
-//! Long clean runs of the static library, with many lowerings, against the model: every word and entry after every call.
+//! Long clean runs of the static library, with many lowerings: every word and entry is compared with the model after every call.
 
 use crate::calls::{check_plot, check_point, check_refer, check_restart, check_setup};
 use crate::driver::Driver;
@@ -113,7 +113,7 @@ fn run(model: &Model, random: &mut Random, plan: &Plan, tally: &mut Tally) -> Re
     Ok(lowerings)
 }
 
-/// All plans; the number of lowerings.
+/// Runs all plans, and returns the number of lowerings.
 pub fn clean(model: &Model, seed: u64, small: bool, tally: &mut Tally) -> Result<u64, String> {
     let mut lowerings = 0;
     for (number, plan) in plans(small).iter().enumerate() {

@@ -1,4 +1,4 @@
-//! States that a call may be handed: whether a refusal holds in one, and changes that make it hold.
+//! States that a call may be given: whether a refusal holds in one, and changes that make it hold.
 
 use crate::calls::{
     damage_word, some_event, some_reference, some_settings, some_tracker, with_zeros,
@@ -7,7 +7,7 @@ use crate::model::*;
 use crate::published;
 use crate::random::Random;
 
-/// All that a call may be handed.
+/// Everything that a call may be given.
 #[derive(Clone)]
 pub struct State {
     pub tracker: Tracker,
@@ -101,7 +101,7 @@ pub fn buckets_torn(tracker: &Tracker) -> bool {
         || sum > 256 * u128::from(tracker.record.references)
 }
 
-/// Whether every count is reported as 0. A torn bucket's divisor may be 0; then it counts as 0 if its product is.
+/// Whether every count is reported as 0. The divisor of a torn bucket may be 0; then the bucket counts as 0 if its product is 0.
 pub fn nothing_reported(tracker: &Tracker) -> bool {
     buckets(tracker).all(|bucket| {
         let threshold = u128::from(tracker.record.threshold);
@@ -110,7 +110,7 @@ pub fn nothing_reported(tracker: &Tracker) -> bool {
     })
 }
 
-/// The length that the kind fixes. An unknown kind fixes none; here its event is incomplete where it is shorter than the longest.
+/// The length of an event of this kind. An unknown kind has none; here its event is incomplete if it is shorter than the longest.
 pub fn length_of(kind: u8) -> usize {
     match kind {
         1 => 9,
@@ -135,7 +135,7 @@ pub fn settings_in(bytes: &[u8]) -> Settings {
     }
 }
 
-// Changes that make a refusal hold. Each is made where no refusal holds that stands before it in an order.
+// Changes that make a refusal hold. Each is made in a state where no refusal holds that comes before it in an order.
 
 /// A number above this one, often just above.
 pub fn above(random: &mut Random, most: u64) -> u64 {
@@ -212,7 +212,7 @@ fn tear_bucket(random: &mut Random, tracker: &mut Tracker, bucket: usize) {
     tracker.thresholds[bucket] = threshold as u32;
 }
 
-/// A reference that would not be sampled is made one to location 0, whose hash of either kind is 0.
+/// A reference that would not be sampled is replaced by one to location 0, whose hash is 0 for either kind.
 pub fn tear_recorded_in(random: &mut Random, state: &mut State) {
     if recorded_in(state).is_none() {
         state.location = 0;
@@ -223,7 +223,7 @@ pub fn tear_recorded_in(random: &mut Random, state: &mut State) {
     tear_bucket(random, &mut state.tracker, bucket);
 }
 
-/// At times the sum alone is too much.
+/// Sometimes only the sum is too large.
 pub fn tear_buckets(random: &mut Random, state: &mut State) {
     let tracker = &mut state.tracker;
     let most = 256 * tracker.record.references;
@@ -237,7 +237,7 @@ pub fn tear_buckets(random: &mut Random, state: &mut State) {
     }
 }
 
-/// No counts at all, a threshold of 0, or one of 1 under bucket thresholds that are larger than the counts.
+/// No counts at all, a threshold of 0, or a threshold of 1 with bucket thresholds that are larger than the counts.
 pub fn report_nothing(random: &mut Random, state: &mut State) {
     let tracker = &mut state.tracker;
     let needed = buckets(tracker);
@@ -254,7 +254,7 @@ pub fn report_nothing(random: &mut Random, state: &mut State) {
     }
 }
 
-/// At times a longer curve of which the number is a point.
+/// Sometimes a longer curve, of which the number is a point.
 pub fn believe_another(random: &mut Random, state: &mut State) {
     let settings = state.tracker.record.settings;
     let believed = &mut state.believed;
@@ -276,7 +276,7 @@ pub fn unknown_kind(random: &mut Random) -> u8 {
     }
 }
 
-/// Cuts the first event, often to its kind byte. One of a single byte becomes another.
+/// Cuts the first event, often to its kind byte. An event of a single byte is replaced by a longer one first.
 pub fn cut_event(random: &mut Random, state: &mut State) {
     if state.bytes[0] == 3 {
         state.bytes = Event::Location(random.any()).bytes();
@@ -302,7 +302,7 @@ pub fn put_event_out_of_range(random: &mut Random, bytes: &mut [u8]) {
     }
 }
 
-/// A sample limit or buckets in range, and too many for the program's tables.
+/// A sample limit or a number of buckets that is in range, but too large for the program's tables.
 pub fn outgrow_program(random: &mut Random, state: &mut State) {
     let (place, most) = random.pick(&[(1, 8192), (13, 10_000)]);
     let number = match random.below(3) {
@@ -335,7 +335,7 @@ pub fn some_state(random: &mut Random) -> State {
     }
 }
 
-/// Settings with tables that are long enough, over a record that setup does not judge.
+/// Settings with tables that are long enough, and a record that setup does not judge.
 pub fn some_setup(random: &mut Random) -> State {
     let mut state = some_state(random);
     let given = some_settings(random);

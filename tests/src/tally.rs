@@ -1,4 +1,4 @@
-//! How often each answer of each function was met.
+//! How often each function gave each answer.
 
 use std::collections::BTreeMap;
 
@@ -20,7 +20,7 @@ impl Tally {
         *self.counts.get(&key).unwrap_or(&0)
     }
 
-    /// A line for each function, and an error if an answer that must be met was met less often than this.
+    /// Prints a line for each function, and returns an error if a wanted answer was given less often than this.
     pub fn require(&self, wanted: &[(&str, &[&str])], least: u64) -> Result<(), String> {
         let mut missing = Vec::new();
         for (function, answers) in wanted {

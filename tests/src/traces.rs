@@ -1,4 +1,4 @@
-//! The curve program against the model, the LRU simulator and the published hash.
+//! The curve program, compared with the model, the LRU simulator and the published hash.
 
 use crate::calls::some_event;
 use crate::lru;
@@ -65,7 +65,7 @@ fn some_setup(random: &mut Random) -> Event {
     Event::Setup(limit, start, width, buckets, kind as u8)
 }
 
-/// An input that is often whole, and at times cut, or with a byte that is no kind.
+/// An input that is often whole, sometimes cut, and sometimes followed by a random byte.
 fn some_input(random: &mut Random) -> Vec<u8> {
     let mut bytes = Vec::new();
     for _ in 0..random.below(60) {
@@ -111,7 +111,7 @@ fn sort_of(printed: &str) -> &str {
     }
 }
 
-/// Random inputs, each printed as the model says.
+/// Random inputs: for each, the program must print what the model prints.
 pub fn random_inputs(model: &Model, seed: u64, runs: u64, tally: &mut Tally) -> Result<(), String> {
     for case in 0..runs {
         let mut random = Random::new(seed ^ (case << 24));
@@ -149,7 +149,7 @@ fn long_input(random: &mut Random, length: usize) -> Vec<u8> {
     bytes
 }
 
-/// A long input in one go; irregular pieces; ends near the edges of buffers; events cut and refused; no input at all.
+/// A long input in one piece; irregular pieces; ends near the edges of buffers; events cut and refused; no input at all.
 pub fn pipes(model: &Model, seed: u64, length: usize) -> Result<(), String> {
     let mut random = Random::new(seed);
     let long = long_input(&mut random, length);
@@ -185,7 +185,7 @@ fn pieces(model: &Model, random: &mut Random) -> Result<(), String> {
     Ok(())
 }
 
-/// Inputs that end near the edges of a program's buffers, followed by an event that is refused, cut short, or by nothing.
+/// Inputs that end near the edges of a program's buffers, followed by a refused event, an incomplete one, or nothing.
 fn edges(model: &Model, random: &mut Random) -> Result<(), String> {
     let refused = Event::Setup(8193, 0, 0, 0, 0).bytes();
     let tails: [&[u8]; 4] = [&[], &[0], &refused, &refused[..17]];
@@ -200,7 +200,7 @@ fn edges(model: &Model, random: &mut Random) -> Result<(), String> {
     Ok(())
 }
 
-/// A setup event cut after each number of bytes.
+/// A setup event, cut after every number of bytes.
 fn cut_events(model: &Model) -> Result<(), String> {
     for cut in 1..18 {
         let event = Event::Setup(3, 5, 7, 9, 1).bytes();
@@ -213,7 +213,7 @@ fn cut_events(model: &Model) -> Result<(), String> {
     Ok(())
 }
 
-/// A trace of at most so many different blocks, with runs, loops and random references.
+/// A trace of at most this many different blocks, with runs, loops and random references.
 fn some_trace(random: &mut Random, blocks: u64) -> Vec<u64> {
     let base = random.any();
     let mut trace: Vec<u64> = Vec::new();
@@ -258,7 +258,7 @@ pub fn full_rate(seed: u64, traces: u64) -> Result<u64, String> {
     Ok(points)
 }
 
-/// The program's points of a full-rate curve, from LRU caches of each size alone.
+/// The points that the program must print at full rate, from an LRU cache of each size.
 fn simulated(trace: &[u64], width: u64, buckets: u64) -> String {
     let mut text = String::new();
     let total = 256 * trace.len() as u64;

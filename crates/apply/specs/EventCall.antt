@@ -1,4 +1,4 @@
--- What an event asks of a tracker, and what it answers from the answer of that call. Assumes nothing.
+-- The call that an event stands for, and the event's answer from the answer of that call. Assumes nothing.
 use Prim.Native.Nat.{ℕ}
 use mathlib.Core.List.{List, [], _∷_}
 use Rattle.rules.specs.declared.Record.{Record}
@@ -16,7 +16,7 @@ use Rattle.rules.specs.Events.{settingsOf, referencesOf}
 use Rattle.apply.specs.declared.Call.{Call}
 use Rattle.apply.specs.declared.Call.the-variants as call
 
--- the first of an event's references, of which there is one at the most
+-- the first of an event's references; there is at most one
 abbrev pub referring : List ℕ → Call
 referring [] = call.Nothing
 referring (x ∷ rest) = call.Reference x
@@ -28,12 +28,12 @@ callOf (event.Span offset bytes) = referring (referencesOf (event.Span offset by
 callOf event.Restart = call.Restart
 callOf (event.Setup body) = call.Setup (settingsOf body)
 
--- a start over a tracker that had the record kept
+-- the result of a start on a tracker with the record `kept`
 abbrev pub startedOn : Record → Started → Applied
 startedOn kept (started.Ready j) = record { kept = j; answer = taken.Whole }
 startedOn kept (started.Refused r) = record { kept = kept; answer = taken.Refused r }
 
--- an event that stood for one reference
+-- the answer to an event that stands for one reference
 abbrev pub takenOf : Answer → Taken
 takenOf answer.Skipped = taken.Whole
 takenOf (answer.Again d) = taken.Whole

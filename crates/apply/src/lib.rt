@@ -1,4 +1,4 @@
-// One trace event, handed to a tracker.
+// Applies one trace event to a tracker.
 use rules::Answer;
 use rules::Applied;
 use rules::BLOCK_BYTES;
@@ -18,7 +18,7 @@ ghost use Rattle.rules.specs.Layout.{trackerAfter, trackerBefore};
 ghost use Rattle.rules.specs.Calls.{applyOf};
 ghost use Rattle.apply.specs.EventCall.{callOf, startedOn, takenFrom};
 
-// What an event asks of a tracker: at most one reference, or a fresh start.
+// The call that an event stands for: at most one reference, or a fresh start.
 enum Call {
     Nothing,
     Reference(u64),
@@ -40,7 +40,7 @@ fn settings_of(body: SetupBody) -> Settings
     }
 }
 
-// A start over a tracker that had the record kept: a refused one keeps it.
+// The result of a start on a tracker whose record was `kept`. A refused start keeps that record.
 fn started_over(kept: Record, started: Started) -> Applied
     ensures { λ r. ⌜ r ≡ startedOn kept started ⌝ }
 {
@@ -56,7 +56,7 @@ fn started_over(kept: Record, started: Started) -> Applied
     }
 }
 
-// What an event that stands for one reference answers.
+// The answer to an event that stands for one reference.
 fn taken(referred: Referred) -> Applied
     ensures { λ r. ⌜ r ≡ takenFrom referred ⌝ }
 {
@@ -82,7 +82,7 @@ fn taken(referred: Referred) -> Applied
     }
 }
 
-// What the event asks. A span asks for the block of its first byte, and one of length 0 for nothing.
+// The call that the event stands for. A span refers to the block of its first byte; a span of length 0 refers to nothing.
 fn call_of(event: Event) -> Call
     ensures { λ r. ⌜ r ≡ callOf event ⌝ }
 {
@@ -99,7 +99,7 @@ fn call_of(event: Event) -> Call
     }
 }
 
-// One trace event. The one call of `refer` is what lets the compiler keep the record in registers over a run of events.
+// Applies one trace event. `refer` is called in one place only, which lets the compiler keep the record in registers over many events.
 pub fn apply(
     kept: Record,
     event: Event,

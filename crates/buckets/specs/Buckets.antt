@@ -1,4 +1,4 @@
--- What is done to the histogram, and what is read of it. Assumes nothing.
+-- Recording in the histogram, and reporting it. Assumes nothing.
 use Prim.Native.Nat.{ℕ, _*_, _≤_, min}
 use mathlib.Core.Path.{_≡_}
 use mathlib.Core.Bool.{Bool, true, false, cond, _||_}
@@ -17,7 +17,7 @@ use Rattle.buckets.specs.declared.Reported.the-variants as reported
 use Rattle.buckets.specs.declared.Added.{Added}
 use Rattle.buckets.specs.declared.Added.the-variants as added
 
--- whether a reference was recorded, and the histogram then
+-- whether a reference was recorded, and the histogram afterwards
 pub record Recorded : Type 0 where
   pub done : Bool
   pub histogram : Histogram
@@ -25,22 +25,22 @@ pub record Recorded : Type 0 where
 abbrev pub recorded : Bool → (counts thresholds : List ℕ) → Recorded
 recorded done counts thresholds = record { done = done; histogram = bucketsOf counts thresholds }
 
--- place j is outside a table, or its bucket is torn
+-- whether place j is outside a table or its bucket is torn
 unfoldable pub unrecordable : (references t j : ℕ) → Histogram → Bool
 unrecordable references t j g = leb (length (g .counts)) j || leb (length (g .thresholds)) j || tornAt references t j g
 
--- one reference in bucket j under t
+-- one reference recorded in bucket j under t, if it can be
 unfoldable pub recordedOf : (references t j : ℕ) → Histogram → Recorded
 recordedOf references t j g =
     cond (unrecordable references t j g) (record { done = false; histogram = g })
     (record { done = true; histogram = recordIn t j g })
 
--- what a report answers
+-- the result of a report
 abbrev pub reportResult : Reported → Result Sums
 reportResult (reported.Sums s) = gives s
 reportResult reported.Torn = refused 3
 
--- what the first n buckets say when they are reported under t
+-- the report of the first n buckets under t: the hits at a point and the total
 unfoldable pub reportOf : (references t n point : ℕ) → Histogram → Result Sums
 reportOf references t n point g =
     cond (ltb (length (g .counts)) n || ltb (length (g .thresholds)) n || tornTo references t n g) (refused 3)
@@ -54,7 +54,7 @@ pub record SoFar (references t n : ℕ) (g : Histogram) (raw sum : ℕ) : Type 0
   pub raw-high : raw ≤ oneReference * references
   pub sum-high : sum ≤ raw
 
--- what is answered of the buckets below n
+-- the buckets below n add up to this, or they are torn
 abbrev pub addedTo : (references t n : ℕ) → Histogram → Added → Type 0
 addedTo references t n g (added.Whole a) = SoFar references t n g (a .raw) (a .sum)
 addedTo references t n g added.Torn = tornTo references t n g ≡ true

@@ -1,4 +1,4 @@
-// The histogram in its two lent tables: a count in units of 1/256 reference to each bucket, and the threshold it was last recorded under.
+// The histogram in its two lent tables: each bucket's count, in units of 1/256 reference, and the threshold it was last recorded under.
 use rules::FULL_RATE;
 use rules::ONE_REFERENCE;
 ghost use mathlib.Core.Path.{_≡_};
@@ -9,27 +9,27 @@ ghost use Rattle.rules.specs.Layout.{bucketsOf, bucketsBefore};
 ghost use Rattle.rules.specs.Conditions.{tornBucket};
 ghost use Rattle.buckets.specs.Buckets.{reportResult, recorded, recordedOf, SoFar, addedTo, reportOf};
 
-// The sums of a report: the hits to a point, and the total.
+// The sums of a report: the hits at a point, and the total.
 pub struct Sums {
     pub hits: u64,
     pub total: u64,
 }
 
-// The answer of a report.
+// The result of a report.
 pub enum Reported {
     // Its sums.
     Sums(Sums),
-    // A bucket is torn, the raw counts are too many, or a table is too short.
+    // A bucket is torn, the sum of the raw counts is too large, or a table is too short.
     Torn,
 }
 
-// The raw counts of some buckets together, and the same as they are reported.
+// The sum of some buckets' raw counts, and the sum of their counts as reported.
 struct Adding {
     raw: u64,
     sum: u64,
 }
 
-// What some buckets add up to, or that one is torn or their raw counts are too many.
+// What some buckets add up to, or that one of them is torn or the sum of their raw counts is too large.
 enum Added {
     Whole(Adding),
     Torn,
@@ -41,7 +41,7 @@ fn lesser(a: usize, b: usize) -> usize
     if a < b { a } else { b }
 }
 
-// Whether a bucket with this count and this threshold of its own is torn.
+// Whether a bucket with this count and this bucket threshold is torn.
 fn torn(count: u64, own: u32, threshold: u64, references: u32) -> bool
     ensures { λ r. ⌜ r ≡ tornBucket references threshold count own ⌝ }
 {
@@ -50,7 +50,7 @@ fn torn(count: u64, own: u32, threshold: u64, references: u32) -> bool
     (b == 0) | (b < threshold) | (FULL_RATE < b) | (most < count)
 }
 
-// Records one reference in the bucket at a place. False: nothing changed, since the place is outside a table or the bucket is torn.
+// Records one reference in the bucket at a place. Returns false and changes nothing if the place is outside a table or the bucket is torn.
 pub fn record_in(
     counts: &mut [u64],
     thresholds: &mut [u32],
@@ -78,7 +78,7 @@ pub fn record_in(
     true
 }
 
-// Adds the buckets of a range to what those before it add up to.
+// Adds the buckets of a range to the sums of those before it.
 fn add_up(
     counts: &[u64],
     thresholds: &[u32],
@@ -113,7 +113,7 @@ fn add_up(
     Added::Whole(Adding { raw, sum })
 }
 
-// The first buckets, as many as are needed, reported under the threshold: the hits at a point and the total, in one pass.
+// Reports the first `needed` buckets under the threshold: the hits at a point and the total, in one pass.
 pub fn report(
     counts: &[u64],
     thresholds: &[u32],

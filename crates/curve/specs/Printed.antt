@@ -1,4 +1,4 @@
--- What is printed is of a run: demands 2 and 3 hold of the curve that the program prints. Assumes nothing.
+-- The curve that the program prints is that of a run, so demands 2 and 3 hold of it. Assumes nothing.
 use mathlib.Core.Path.{_≡_}
 use mathlib.Core.List.{List, []}
 use Prim.Native.Nat.{ℕ}
@@ -17,8 +17,8 @@ use Rattle.curve.specs.Program.{firstSettings, firstTables, programOf}
 unfoldable pub start : Tracker
 start = fresh (withDefaults firstSettings) firstTables
 
--- of an input that ends at the end of an event, none of them refused: its events, and the run whose references are those since the
--- last fresh start among them; the program prints the curve of what that run left
+-- the events of an input that are taken, and the run whose references are those since the last fresh start among them; if the input
+-- ends after a whole event and none is refused, the program prints the curve of what that run left
 pub record Printed (input : List ℕ) : Type 0 where
   pub events : List Event
   pub are : Events (take (feedOf input start .taken) input) events

@@ -20,7 +20,7 @@ use Rattle.curve.specs.declared.Pause.{Pause}
 use Rattle.curve.specs.declared.Next.{Next}
 use Rattle.curve.specs.declared.Next.the-variants as next
 
--- it begins with all settings zero and hash kind 1
+-- the program begins with all settings 0 and hash kind 1
 abbrev pub firstSettings : Settings
 firstSettings = record { limit = 0; start = 0; width = 0; buckets = 0; hashing = record { kind = 1 } }
 
@@ -28,13 +28,13 @@ firstSettings = record { limit = 0; start = 0; width = 0; buckets = 0; hashing =
 abbrev pub firstTables : Tables
 firstTables = tablesOf (replicate 1024 0) (replicate 1026 0) (replicate 1026 0)
 
--- at the end of the input an incomplete event is refused 7; a refused event's place counts from the start of the input
+-- at the end of the input an incomplete event is refused 7; places are counted from the start of the input
 abbrev pub endText : Result End → (place : ℕ) → Tracker → List ℕ
 endText (refused n) place s = refusedLine n place
 endText (gives inside) place s = refusedLine 7 place
 endText (gives whole) place s = curveText (s .kept) (s .tables .histogram)
 
--- what is printed of the input, from a state on
+-- what is printed for an input, starting from a state
 abbrev pub textFrom : Tracker → List ℕ → List ℕ
 textFrom s input = endText (feedOf input s .result) (feedOf input s .taken) (feedOf input s .left)
 
@@ -42,63 +42,63 @@ abbrev pub textAfter : Result Record → Tables → List ℕ → List ℕ
 textAfter (refused n) t input = refusedLine n 0
 textAfter (gives kept) t input = textFrom (record { kept = kept; tables = t }) input
 
--- what is printed of the whole input, over tables
+-- what is printed for the whole input, starting with these tables
 abbrev pub textOver : Tables → List ℕ → List ℕ
 textOver t input = textAfter (setupOf firstSettings t .result) (setupOf firstSettings t .left) input
 
--- the program: what it prints of an input
+-- what the program prints for an input
 abbrev pub programOf : List ℕ → List ℕ
 programOf input = textOver firstTables input
 
 -- ---- between reads
 
--- what a read put behind the first bytes fits
+-- the bytes of a read fit into the room for them
 abbrev pub Fitting : Came → (room : ℕ) → Type 0
 Fitting (came.Bytes n) room = n ≤ room
 Fitting came.End room = Unit {0}
 Fitting came.Again room = Unit {0}
 Fitting came.Failed room = Unit {0}
 
--- a text stands at the front of a buffer
+-- the first n bytes of a buffer are the text
 pub record Stands (text buffer : List ℕ) (n : ℕ) : Type 0 where
   pub is : take n buffer ≡ text
   pub fits : n ≤ length buffer
 
--- the first bytes of a buffer are the text for some input: that which was read
+-- the first n bytes of a buffer are the text for some input
 pub record Prints (text : List ℕ → List ℕ) (buffer : List ℕ) (n : ℕ) : Type 0 where
   pub input : List ℕ
   pub stands : Stands (text input) buffer n
 
--- no text without the end of the input, or a refused event
+-- a result that is a text is the text for some input; nothing is said of the others
 abbrev pub Telling : (List ℕ → List ℕ) → Done → List ℕ → Type 0
 Telling text (done.Text n) buffer = Prints text buffer n
 Telling text done.Failed buffer = Unit {0}
 Telling text done.Unending buffer = Unit {0}
 
--- some input, fed from the first state on, was taken up to a place: why no more was, what that left, and the bytes behind the place
+-- some input, fed from the first state, was taken up to a place: why no more was, the state then, and the bytes after the place
 pub record Reached (first : Tracker) (place : ℕ) (why : Result End) (s : Tracker) (rest : List ℕ) : Type 0 where
   pub input : List ℕ
   pub is : feedOf input first ≡ record { taken = place; result = why; left = s }
   pub rest-is : drop place input ≡ rest
 
--- no event of it was refused
+-- the same, with no event refused
 pub record Follows (first : Tracker) (place : ℕ) (s : Tracker) (rest : List ℕ) : Type 0 where
   pub end : End
   pub reached : Reached first place (gives end) s rest
 
--- another read can be counted, and has room behind what is left over
+-- another read can be counted, and has room after the bytes left over
 pub record Ready (p : Pause) : Type 0 where
   pub short : p .left < 18
   pub far : 65536 ≤ p .reach
   pub counted : p .place + p .reach < 2 ^ 64
 
--- a pause that comes after another
+-- pause q comes after pause p
 pub record Later (p q : Pause) : Type 0 where
   pub short : q .left < 18
   pub falls : q .reach ≤ p .reach
   pub counted : q .place + q .reach < 2 ^ 64
 
--- after a read of an input that follows a first state: it follows still, or the text of it stands
+-- after a read: the new pause still follows from the first state, or the result is right for that state
 abbrev pub Leads : (first : Tracker) → Pause → Next → (buffer : List ℕ) → Tables → Type 0
 Leads first p (next.On q) buffer t = Later p q × Follows first (q .place) (record { kept = q .kept; tables = t }) (take (q .left) buffer)
 Leads first p (next.Over d) buffer t = Telling (textFrom first) d buffer
@@ -110,13 +110,13 @@ AfterFed p fed bytes r buffer =
     → Reached first (p .place + fed .taken) (endingResult (fed .ending)) (record { kept = fed .kept; tables = t }) (drop (fed .taken) bytes)
     → Leads first p r buffer t
 
--- after these bytes were read: those left over, and more
+-- after these bytes were read: those left over and more
 abbrev pub AfterBytes : Pause → Tables → (bytes : List ℕ) → Next → (buffer : List ℕ) → Tables → Type 0
 AfterBytes p t bytes r buffer after =
     (first : Tracker) (rest more : List ℕ) → Follows first (p .place) (record { kept = p .kept; tables = t }) rest → bytes ≡ rest ++ more
     → Leads first p r buffer after
 
--- after a read behind those left over
+-- after a read that follows those left over
 abbrev pub AfterRead : Pause → Tables → (rest : List ℕ) → Next → (buffer : List ℕ) → Tables → Type 0
 AfterRead p t rest r buffer after =
     (first : Tracker) → Follows first (p .place) (record { kept = p .kept; tables = t }) rest → Leads first p r buffer after

@@ -1,4 +1,4 @@
-// Reads trace events from standard input to its end, and prints the curve. Document 01, "The curve program".
+// Reads trace events from standard input until it ends, and prints the curve. Document 01, "The curve program".
 use feed::Ending;
 use feed::Fed;
 use libc::EINTR;
@@ -23,7 +23,7 @@ ghost use Rattle.curve.specs.Program.{Fitting, Stands, Telling, Ready, A
 
 // ---- the input, read in pieces
 
-// What one read came to.
+// The result of one read.
 enum Came {
     Bytes(usize),
     End,
@@ -31,15 +31,15 @@ enum Came {
     Failed,
 }
 
-// What the program came to: a text at the front of the buffer, a read that failed, or an input too long to count.
+// The result of the program: a text at the front of the buffer, a failed read, or an input too long to count.
 enum Done {
     Text(usize),
     Failed,
     Unending,
 }
 
-// Between reads: the record; how many bytes are left over, at the front of the buffer; the place of the first of them in the input;
-// and a number that falls by one for each read and each byte taken, so that the program ends.
+// The state between reads: the record; how many bytes are left over, at the front of the buffer; the place of the first of them in
+// the input; and a number that falls by one for each read and each byte taken, so that the program terminates.
 struct Pause {
     kept: Record,
     left: usize,
@@ -47,13 +47,13 @@ struct Pause {
     reach: u64,
 }
 
-// What a read leads to: another, or what the program came to.
+// What follows a read: another read, or the result of the program.
 enum Next {
     On(Pause),
     Over(Done),
 }
 
-// One read of standard input, behind the first bytes of the buffer. An interrupted one is to be tried again.
+// Reads standard input once, into the buffer after its first `have` bytes. An interrupted read is to be tried again.
 fn read_behind(buffer: &mut [u8], have: usize) -> Came
     requires { ⌜ have < length (now buffer) ⌝ }
     ensures { λ r. ⌜ Fitting r (length (now (buffer .entry)) - have) ⌝ }
@@ -72,7 +72,7 @@ fn read_behind(buffer: &mut [u8], have: usize) -> Came
     Came::Failed
 }
 
-// The bytes from one place to another, moved to the front.
+// Moves the bytes from `from` to `end` to the front, and returns how many there are.
 fn to_front(buffer: &mut [u8], from: usize, end: usize) -> usize
     requires { ⌜ (from ≤ end) × (end ≤ length (now buffer)) ⌝ }
     ensures { λ r. ⌜ r ≡ end - from ⌝ }
@@ -87,7 +87,7 @@ fn to_front(buffer: &mut [u8], from: usize, end: usize) -> usize
     count
 }
 
-// What is printed at the end of the input: bytes that are left over are an incomplete event.
+// Writes what is printed at the end of the input. Bytes left over are an incomplete event.
 fn put_end(
     out: &mut [u8],
     kept: Record,
@@ -105,7 +105,7 @@ fn put_end(
     text::put_curve(out, kept, counts, thresholds)
 }
 
-// The number of the refusal that feeding ended with, or 0.
+// The number of the refusal that stopped feeding, or 0 if there was none.
 fn refusal_in(ending: Ending) -> u64
     ensures { λ r. ⌜ r ≡ numberOf (endingResult ending) ⌝ }
 {
@@ -116,7 +116,7 @@ fn refusal_in(ending: Ending) -> u64
     }
 }
 
-// After feeding: a refused event ends the program; else the bytes that were not taken are kept for the next read.
+// What follows feeding: a refused event ends the program; otherwise the bytes that were not taken are kept for the next read.
 fn after_fed(p: Pause, fed: Fed, end: usize, buffer: &mut [u8]) -> Next
     requires { ⌜ Ready p × (fed .taken ≤ end) × (end ≤ 65536) × (length (now buffer) ≡ 65536) ⌝ }
     ensures { λ r. ⌜ AfterFed p fed (take end (now (buffer .entry))) r (now (buffer .exit)) ⌝ }
@@ -139,7 +139,7 @@ fn after_fed(p: Pause, fed: Fed, end: usize, buffer: &mut [u8]) -> Next
     })
 }
 
-// Feeds what was left over and the bytes read behind it.
+// Feeds the bytes left over and those read after them.
 fn after_bytes(
     p: Pause,
     count: usize,
@@ -158,7 +158,7 @@ fn after_bytes(
     after_fed(p, fed, end, buffer)
 }
 
-// One read, and what it leads to.
+// Reads once and acts on the result.
 fn one_read(
     p: Pause,
     buffer: &mut [u8],
@@ -186,7 +186,7 @@ fn one_read(
     }
 }
 
-// Feeds the input to its end, and answers the text.
+// Reads and feeds the input until there is a result.
 fn follow(
     kept: Record,
     buffer: &mut [u8],
@@ -229,7 +229,7 @@ fn first_settings() -> Settings
     }
 }
 
-// From the first settings on.
+// Runs the program: the first setup, then the input.
 fn run(buffer: &mut [u8], locations: &mut [u64], counts: &mut [u64], thresholds: &mut [u32]) -> Done
     requires { ⌜ (length (now buffer) ≡ 65536) × (length (now counts) ≤ 1026) ⌝ }
     ensures { λ r. ⌜ Telling (textOver (tablesBefore locations counts thresholds)) r (now (buffer .exit)) ⌝ }
@@ -242,7 +242,7 @@ fn run(buffer: &mut [u8], locations: &mut [u64], counts: &mut [u64], thresholds:
     }
 }
 
-// Prints the text that stands at the front of the buffer; or says why there is none.
+// Prints the text at the front of the buffer, or says on standard error why there is none.
 fn tell(done: Done, buffer: &[u8])
     requires { ⌜ Telling programOf done (now buffer) ⌝ }
 {

@@ -1,1 +1,1 @@
-// The demands stand in specs/ and are proved in proofs/. Nothing here runs.
+// The demands are stated in specs/ and proved in proofs/. There is no code here.

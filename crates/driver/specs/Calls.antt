@@ -1,4 +1,4 @@
--- The calls of C, by what the rules say of them. Every call but the hash answers a number, 0 or the refusal's. Assumes nothing.
+-- The C calls, in terms of the rules. Every call except the hash returns 0 or the number of a refusal. Assumes nothing.
 use Prim.Native.Nat.{ℕ}
 use mathlib.Core.List.{List}
 use lib.Ieee.{Float}
@@ -18,17 +18,17 @@ use Rattle.words.specs.Words.{recordOf, wordsOf, replyWords, pointWords, plotWo
 use Rattle.driver.specs.declared.AskedSettings.{AskedSettings}
 use Rattle.driver.specs.declared.Believed.{Believed}
 
--- ---- what C hands over
+-- ---- what C passes
 
--- the settings asked for, as C hands them over
+-- the settings asked for, as C passes them
 abbrev pub settingsFrom : AskedSettings → Settings
 settingsFrom g = record { limit = g .limit; start = g .start; width = g .width; buckets = g .buckets; hashing = record { kind = g .kind } }
 
--- the shape believed, as C hands it over
+-- the believed shape, as C passes it
 abbrev pub shapeFrom : Believed → Shape
 shapeFrom b = record { buckets = b .buckets; width = b .width }
 
--- the body of a kind 4 event, as C hands it over
+-- the body of a kind 4 event, as C passes it
 abbrev pub setupBodyFrom : (limit start width buckets kind : ℕ) → SetupBody
 setupBodyFrom limit start width buckets kind = record { limit = limit; start = start; width = width; buckets = buckets; kind = kind }
 
@@ -38,7 +38,7 @@ setupBodyFrom limit start width buckets kind = record { limit = limit; start = s
 abbrev pub hashIn : (kind location : ℕ) → ℕ
 hashIn kind location = hashOf (record { kind = kind }) location
 
--- what a start leaves: its number, the record's words, the tables
+-- what a start leaves: the number returned, the record's words, the tables
 pub record Started : Type 0 where
   pub number : ℕ
   pub words : List ℕ
@@ -47,7 +47,7 @@ pub record Started : Type 0 where
 abbrev pub started : (number : ℕ) (words : List ℕ) → Tables → Started
 started number words tables = record { number = number; words = words; tables = tables }
 
--- a start, by what the rules say of it
+-- a start, from the outcome that the rules prescribe
 abbrev pub startedBy : Outcome Record Tables → (words : List ℕ) → Started
 startedBy b w = started (numberOf (b .result)) (orOld wordsOf (b .result) w) (b .left)
 
@@ -57,7 +57,7 @@ setupIn given w t = startedBy (setupOf given t) w
 abbrev pub restartIn : (words : List ℕ) → Tables → Started
 restartIn w t = startedBy (restartOf (recordOf w) t) w
 
--- what a reference leaves: its number, the record's words, the answer's words, the tables
+-- what a reference leaves: the number returned, the record's words, the answer's words, the tables
 pub record Referred : Type 0 where
   pub number : ℕ
   pub words : List ℕ
@@ -71,14 +71,14 @@ referred number words answer tables = record { number = number; words = words; a
 abbrev pub keptWords : Outcome Reply Tracker → (words : List ℕ) → List ℕ
 keptWords o w = orOld (λ r. wordsOf (o .left .kept)) (o .result) w
 
--- a reference, by what the rules say of it
+-- a reference, from the outcome that the rules prescribe
 abbrev pub stepped : Outcome Reply Tracker → (words answer : List ℕ) → Referred
 stepped o w a = referred (numberOf (o .result)) (keptWords o w) (orOld replyWords (o .result) a) (o .left .tables)
 
 abbrev pub referIn : (location : ℕ) (words answer : List ℕ) → Tables → Referred
 referIn x w a t = stepped (referOf x (record { kept = recordOf w; tables = t })) w a
 
--- what a call gives into words or bytes that it is lent
+-- what a call leaves: the number returned, and the words or bytes lent to it
 pub record Given (C : Type 0) : Type 0 where
   pub number : ℕ
   pub words : C

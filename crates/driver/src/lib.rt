@@ -1,5 +1,5 @@
-// What a driver in C links: include/rockgingham.h says the same for its readers. Every function takes anything and, but for the hash,
-// answers 0, or the number of a refusal, which changes no word, table or byte.
+// The C interface; include/rockgingham.h documents it for C programmers. Every function accepts any values. Every function except the
+// hash returns 0 or the number of a refusal; a refused call changes no word, table or byte.
 use rules::Answer;
 use rules::Event;
 use rules::Hashing;
@@ -24,7 +24,7 @@ ghost use Rattle.rules.specs.Layout.{tablesBefore, bucketsBefore, tablesAfter};
 ghost use Rattle.driver.specs.Calls.{settingsFrom, shapeFrom, setupBodyFrom, started, referred, given};
 ghost use Rattle.driver.specs.Calls.{hashIn, setupIn, restartIn, referIn, pointIn, plotIn, readIn, writeIn};
 
-// The settings asked for: a zero stands for its default, except the hash kind.
+// The settings asked for. A zero stands for the default, except for the hash kind.
 #[repr(C)]
 pub struct AskedSettings {
     pub limit: u64,
@@ -62,7 +62,7 @@ fn shape_from(believed: Believed) -> Shape
     }
 }
 
-// The hash of a location, below 2^24: of kind 0 the location, of any other kind its finaliser, modulo 2^24.
+// The hash of a location: for kind 0 the location modulo 2^24, for any other kind its finaliser modulo 2^24.
 #[no_mangle]
 pub extern "C" fn rockgingham_hash(kind: u64, location: u64) -> u64
     ensures { λ r. ⌜ r ≡ hashIn kind location ⌝ }
@@ -103,7 +103,7 @@ pub extern "C" fn rockgingham_restart(
     number_started(answer)
 }
 
-// One reference: 0 Skipped, 1 Again with the place, 2 First.
+// One reference. The answer's words: 0 Skipped, 1 Again with the place, 2 First.
 #[no_mangle]
 pub extern "C" fn rockgingham_refer(
     words: &mut [u64; 9],
@@ -165,7 +165,7 @@ pub extern "C" fn rockgingham_plot(
     number_plotted(answer)
 }
 
-// The first event of the bytes: its kind, the number of bytes it took, the numbers of its body.
+// The first event of the bytes: its kind, the number of bytes it took, and the numbers of its body.
 #[no_mangle]
 pub extern "C" fn rockgingham_read(event: &mut [u64; 7], bytes: &[u8]) -> u64
     ensures { λ r. ⌜ given r (now (event .exit)) ≡ readIn (now (bytes .entry)) (now (event .entry)) ⌝ }
@@ -179,7 +179,7 @@ pub extern "C" fn rockgingham_read(event: &mut [u64; 7], bytes: &[u8]) -> u64
     }
 }
 
-// Each kind of event is written by a function of its own, whose types hold nothing that the event could not.
+// Each kind of event has its own function for writing, whose parameters can hold only what the event can.
 #[no_mangle]
 pub extern "C" fn rockgingham_write_location(location: u64, buffer: &mut [u8]) -> u64
     ensures { λ r. ⌜ given r (now (buffer .exit)) ≡ writeIn (Event.Location location) (now (buffer .entry)) ⌝ }

@@ -1,4 +1,4 @@
--- Document 01, "Trace events" and "The curve program": bytes of a trace, event after event. Assumes nothing.
+-- Document 01, "Trace events" and "The curve program": feeding the bytes of a trace, event by event. Assumes nothing.
 use Prim.Native.Nat.{ℕ, zero, suc, _+_}
 use mathlib.Core.Bool.{cond}
 use mathlib.Core.List.{List, _++_}
@@ -12,12 +12,12 @@ use Rattle.feed.specs.declared.Ending.{Ending}
 use Rattle.feed.specs.declared.Ending.the-variants as ending
 use Rattle.feed.specs.declared.Fed.{Fed}
 
--- where the bytes end, when no event is refused: after a whole event, or inside one, which is left untaken
+-- where the bytes end, if no event is refused: after a whole event, or inside one, which is left untaken
 pub data End : Type 0 where
   whole : End
   inside : End
 
--- how many bytes were taken, why no more were, and what is left; a refused event begins after the bytes taken
+-- how many bytes were taken, why no more were, and the tracker after them; a refused event begins right after the bytes taken
 pub record Feeding : Type 0 where
   pub taken : ℕ
   pub result : Result End
@@ -26,15 +26,15 @@ pub record Feeding : Type 0 where
 abbrev pub stopped : Result End → Tracker → Feeding
 stopped why s = record { taken = 0; result = why; left = s }
 
--- so many bytes were taken before
+-- the same, with n more bytes taken before
 abbrev pub further : ℕ → Feeding → Feeding
 further n f = record { taken = n + f .taken; result = f .result; left = f .left }
 
--- an event that cannot be read: one that is incomplete is no refusal yet
+-- the result at an event that cannot be read: an incomplete event is not refused yet
 abbrev pub unreadable : ℕ → Result End
 unreadable n = cond (eqb n 7) (gives inside) (refused n)
 
--- after an event that was refused nothing more is done
+-- after a refused event nothing more is done
 abbrev pub afterEvent : (List ℕ → Tracker → Feeding) → (taken : ℕ) → List ℕ → Result (Unit {0}) → Tracker → Feeding
 afterEvent more taken bytes (refused n) s = stopped (refused n) s
 afterEvent more taken bytes (gives u) s = further taken (more (drop taken bytes) s)
@@ -47,16 +47,16 @@ afterReading more bytes (gives g) s = afterEvent more (g .taken) bytes (applyOf 
 abbrev pub firstThen : (List ℕ → Tracker → Feeding) → List ℕ → Tracker → Feeding
 firstThen more bytes s = cond (eqb (length bytes) 0) (stopped (gives whole) s) (afterReading more bytes (readOf bytes) s)
 
--- at most so many events
+-- at most this many events
 unfoldable pub feedMost : (events : ℕ) → List ℕ → Tracker → Feeding
 feedMost zero bytes s = stopped (gives whole) s
 feedMost (suc n) bytes s = firstThen (feedMost n) bytes s
 
--- until the bytes end or an event is refused: an event takes a byte at least
+-- until the bytes end or an event is refused: an event takes at least one byte
 unfoldable pub feedOf : List ℕ → Tracker → Feeding
 feedOf bytes s = feedMost (length bytes) bytes s
 
--- more bytes behind those that were fed: what was left untaken stands before them; after a refusal nothing more is done
+-- more bytes after those that were fed: they follow what was left untaken; after a refusal nothing more is done
 abbrev pub onward : Result End → (taken : ℕ) → (bytes more : List ℕ) → Tracker → Feeding
 onward (refused n) taken bytes more s = record { taken = taken; result = refused n; left = s }
 onward (gives e) taken bytes more s = further taken (feedOf (drop taken bytes ++ more) s)
@@ -64,7 +64,7 @@ onward (gives e) taken bytes more s = further taken (feedOf (drop taken bytes ++
 abbrev pub resumed : Feeding → (bytes more : List ℕ) → Feeding
 resumed f bytes more = onward (f .result) (f .taken) bytes more (f .left)
 
--- ---- what the code's answer says, with the tables as the call left them
+-- ---- what the code returns, with the tables as the call left them
 
 abbrev pub endingResult : Ending → Result End
 endingResult ending.Whole = gives whole

@@ -1,4 +1,4 @@
-// A trace's bytes to a tracker, event by event.
+// Feeds the bytes of a trace to a tracker, event by event.
 use rules::Reading;
 use rules::Record;
 use rules::Refusal;
@@ -8,21 +8,21 @@ ghost use Rattle.rules.specs.Answers.{number};
 ghost use Rattle.rules.specs.Layout.{trackerBefore};
 ghost use Rattle.feed.specs.Feed.{unreadable, feedOf, endingResult, afterFed};
 
-// Why no more bytes were taken: they end after a whole event, or inside one, or an event was refused.
+// Why no more bytes were taken: they end after a whole event, they end inside one, or an event was refused.
 pub enum Ending {
     Whole,
     Inside,
     Refused(Refusal),
 }
 
-// What feeding answers: the record as it is then, and how many bytes were taken. A refused event begins after them.
+// The record after feeding, how many bytes were taken, and why no more were. A refused event begins right after the bytes taken.
 pub struct Fed {
     pub kept: Record,
     pub taken: usize,
     pub ending: Ending,
 }
 
-// An event that cannot be read: one that is incomplete is no refusal yet.
+// The ending at an event that cannot be read. An incomplete event is not refused yet.
 fn unreadable(why: Refusal) -> Ending
     ensures { λ r. ⌜ endingResult r ≡ unreadable (number why) ⌝ }
 {
@@ -32,7 +32,7 @@ fn unreadable(why: Refusal) -> Ending
     Ending::Refused(why)
 }
 
-// Event after event, until the bytes end, end inside an event, or an event is refused.
+// Applies event after event, until the bytes end, end inside an event, or an event is refused.
 pub fn feed(
     kept: Record,
     bytes: &[u8],

@@ -5,7 +5,7 @@ ghost use mathlib.Core.Path.{_≡_};
 ghost use Prim.Native.Nat.{_*_, _%_, _^_};
 ghost use Rattle.rules.specs.Settings.{shiftStep, finaliser, hashOf};
 
-// x * m modulo 2^64, from halves of 32 bits: of the four products the two middle ones count by their lower halves, the highest not at all.
+// x * m modulo 2^64, from 32-bit halves. Only the lower halves of the two middle products count, and the highest product not at all.
 pub fn times(x: u64, m: u64) -> u64
     ensures { λ r. ⌜ r ≡ x * m % 2 ^ 64 ⌝ }
 {
@@ -18,7 +18,7 @@ pub fn times(x: u64, m: u64) -> u64
     std::num::wrapping_add_u64(upper, x_low * m_low)
 }
 
-// x xor (x shifted right 33).
+// x xor (x shifted right by 33).
 fn shift_step(x: u64) -> u64
     ensures { λ r. ⌜ r ≡ shiftStep x ⌝ }
 {
@@ -34,7 +34,7 @@ fn finaliser(x: u64) -> u64
     shift_step(second)
 }
 
-// The hash of a location, below 2^24: of kind 0 the location, of any other kind its finaliser, modulo 2^24.
+// The hash of a location: for kind 0 the location modulo 2^24, for any other kind its finaliser modulo 2^24.
 pub fn hash_of(hashing: Hashing, location: u64) -> u64
     ensures { λ r. ⌜ r ≡ hashOf hashing location ⌝ }
 {

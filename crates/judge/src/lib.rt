@@ -1,4 +1,4 @@
-// What a call judges before it does anything, each test once, and the refusals' numbers. Every function takes anything.
+// The tests that may refuse a call, each written once, and the refusals' numbers. Every function accepts any arguments.
 use rules::FULL_RATE;
 use rules::MOST_BUCKETS;
 use rules::MOST_KIND;
@@ -16,7 +16,7 @@ ghost use Rattle.rules.specs.Answers.{number};
 ghost use Rattle.rules.specs.Layout.{tablesBefore, bucketsBefore};
 ghost use Rattle.rules.specs.Conditions.{bucketsTooShort, tooShort, tornRecord, stale};
 
-// A refusal's number, for who answers in numbers.
+// The number of a refusal.
 pub fn number_of(why: Refusal) -> u64
     ensures { λ r. ⌜ r ≡ number why ⌝ }
 {
@@ -33,14 +33,14 @@ pub fn number_of(why: Refusal) -> u64
     }
 }
 
-// Whether a setting is not from 1 to the largest allowed.
+// Whether a setting is not between 1 and `most`.
 fn outside(most: u64, setting: u64) -> bool
     ensures { λ r. ⌜ r ≡ outside most setting ⌝ }
 {
     (setting == 0) | (most < setting)
 }
 
-// Whether settings, after defaults, are outside their ranges.
+// Whether a setting, after defaults, is outside its range.
 pub fn out_of_range(s: Settings) -> bool
     ensures { λ r. ⌜ r ≡ outOfRange s ⌝ }
 {
@@ -51,7 +51,7 @@ pub fn out_of_range(s: Settings) -> bool
         | (MOST_KIND < s.hashing.kind)
 }
 
-// Whether a record is torn. The shape of the test lets the compiler use each part of it later: none stands deep in it.
+// Whether a record is torn. No part of the test is deeply nested, which lets the compiler use each part later.
 pub fn torn(kept: Record) -> bool
     ensures { λ r. ⌜ r ≡ tornRecord kept ⌝ }
 {
@@ -64,7 +64,7 @@ pub fn torn(kept: Record) -> bool
             | (MOST_REFERENCES < n.references))
 }
 
-// Whether a bucket table of so many entries is too short for so many buckets. No table is as long as the sum that would wrap.
+// Whether a bucket table with this many entries is too short for this many buckets. If the sum would wrap, any table is too short.
 fn shorter(entries: u64, buckets: u64) -> bool
     ensures { λ r. ⌜ r ≡ ltb entries (needed buckets) ⌝ }
 {
@@ -88,7 +88,7 @@ pub fn too_short(s: Settings, locations: &[u64], counts: &[u64], thresholds: &[u
     ((locations.len() as u64) < s.limit) | buckets_too_short(s, counts, thresholds)
 }
 
-// Whether the believed shape is not the tracker's.
+// Whether the believed shape differs from the tracker's.
 pub fn is_stale(believed: Shape, s: Settings) -> bool
     ensures { λ r. ⌜ r ≡ stale believed s ⌝ }
 {

@@ -1,4 +1,4 @@
-// Little-endian numbers in bytes: got from a place on, and put there. Each function takes any place.
+// Gets and puts little-endian numbers at a place in bytes. Each public function accepts any place.
 ghost use mathlib.Core.Path.{_≡_};
 ghost use Prim.Native.Nat.{_+_, _≤_};
 ghost use lib.Dec.{leb};
@@ -7,7 +7,7 @@ ghost use lib.Seq.{sets};
 ghost use Rattle.rules.specs.Events.{bytesOf, numberAt};
 ghost use Rattle.little_endian.specs.InBytes.{gotFrom, putInto};
 
-// Whether so many bytes from a place on are all there.
+// Whether the `count` bytes from `at` on are all there.
 fn there(all: usize, at: usize, count: usize) -> bool
     ensures { λ r. ⌜ r ≡ leb (at + count) all ⌝ }
 {
@@ -17,7 +17,7 @@ fn there(all: usize, at: usize, count: usize) -> bool
     at <= all - count
 }
 
-// ---- got
+// ---- get
 
 fn one_at(bytes: &[u8], at: usize) -> u8
     requires { ⌜ at + 1 ≤ length (now bytes) ⌝ }
@@ -53,7 +53,7 @@ fn eight_at(bytes: &[u8], at: usize) -> u64
     low as u64 + 4294967296 * (high as u64)
 }
 
-// The number in one byte, in four, in eight: 0 where they are not all there.
+// The number in one, four or eight bytes, or 0 if they are not all there.
 pub fn get_one(bytes: &[u8], at: usize) -> u8
     ensures { λ r. ⌜ r ≡ gotFrom 1 at (now (bytes .entry)) ⌝ }
 {
@@ -114,7 +114,7 @@ fn fill_eight(buffer: &mut [u8], at: usize, x: u64)
     fill_four(buffer, at + 4, (x / 4294967296) as u32);
 }
 
-// A number's one byte, four, eight: nothing is changed where they do not fit.
+// Puts a number as one, four or eight bytes. Changes nothing if they do not fit.
 pub fn put_one(buffer: &mut [u8], at: usize, x: u8)
     ensures { λ _. ⌜ now (buffer .exit) ≡ putInto 1 at x (now (buffer .entry)) ⌝ }
 {

@@ -1,4 +1,4 @@
-// A list of locations at the front of a lent table: its first n entries, or all of them where the table is shorter.
+// A list of locations at the front of a lent table: its first n entries, or all of them if the table is shorter.
 use rules::Hashing;
 ghost use mathlib.Core.Path.{_≡_};
 ghost use Prim.Native.Nat.{min, max};
@@ -7,11 +7,11 @@ ghost use Rattle.rules.specs.Settings.{hashOf};
 ghost use Rattle.rules.specs.Reference.{firstPlace, largest};
 ghost use Rattle.live.specs.Live.{placeFound, movedToFront, remaining, remainingOf, lowering, loweringOf};
 
-// The answer of a search.
+// The result of a search.
 pub enum Found {
     // The place, counted from 0.
     At(usize),
-    // The list has no such location.
+    // The location is not in the list.
     Nothing,
 }
 
@@ -39,7 +39,7 @@ fn larger(a: u64, b: u64) -> u64
     if a < b { b } else { a }
 }
 
-// The place, counted from 0, where the location first occurs.
+// Finds the place, counted from 0, where the location first occurs.
 pub fn first_place(locations: &[u64], n: usize, location: u64) -> Found
     ensures { λ r. ⌜ placeFound r ≡ firstPlace location (take n (now (locations .entry))) ⌝ }
 {
@@ -56,8 +56,8 @@ pub fn first_place(locations: &[u64], n: usize, location: u64) -> Found
     }
 }
 
-// The location to the front: what stood before the place moves one back, and what stood at the place is gone.
-// A place past the end changes nothing.
+// Puts the location at the front. The entries before the place move back by one; the entry at the place is overwritten.
+// If the place is past the end, nothing changes.
 pub fn to_front(locations: &mut [u64], place: usize, location: u64)
     ensures { λ _. ⌜ now (locations .exit) ≡ movedToFront place location (now (locations .entry)) ⌝ }
 {
@@ -72,7 +72,7 @@ pub fn to_front(locations: &mut [u64], place: usize, location: u64)
     locations[0] = location;
 }
 
-// The largest hash in the list, 0 in the empty one.
+// The largest hash in the list, or 0 if the list is empty.
 pub fn largest_hash(locations: &[u64], n: usize, hashing: Hashing) -> u64
     ensures { λ r. ⌜ r ≡ largest (hashOf hashing) (take n (now (locations .entry))) ⌝ }
 {
@@ -86,7 +86,7 @@ pub fn largest_hash(locations: &[u64], n: usize, hashing: Hashing) -> u64
     most
 }
 
-// The entries whose hash is below the threshold stay, in order; the others leave. Answers how many stay.
+// Keeps the entries whose hash is below the threshold, in order, and drops the others. Returns how many are kept.
 pub fn keep_below(locations: &mut [u64], n: usize, hashing: Hashing, threshold: u64) -> usize
     ensures { λ r. ⌜ remaining r (now (locations .exit)) ≡ remainingOf (hashOf hashing) threshold n (now (locations .entry)) ⌝ }
 {
@@ -104,7 +104,8 @@ pub fn keep_below(locations: &mut [u64], n: usize, hashing: Hashing, threshold: 
     number
 }
 
-// A new location in front of a list that has no room for it: the threshold falls, and whatever is not below it leaves.
+// Puts a new location in front of a list without room for it: the threshold falls, and every entry whose hash is not below it is
+// dropped, perhaps the new one too.
 pub fn lower(
     locations: &mut [u64],
     n: usize,

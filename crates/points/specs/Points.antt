@@ -1,4 +1,4 @@
--- What the functions of a point hand to each other. Assumes nothing.
+-- What the functions for a point pass to each other. Assumes nothing.
 use Prim.Native.Nat.{ℕ, _-_, _*_}
 use mathlib.Core.Bool.{cond}
 use lib.Dec.{eqb}
@@ -8,7 +8,7 @@ use Rattle.buckets.specs.declared.Sums.{Sums}
 use Rattle.rules.specs.Answers.{Result, refused, gives}
 use Rattle.rules.specs.Layout.{profileOf}
 
--- point k, from the report's sums
+-- point k, from the sums of a report
 abbrev pub fromSums : Settings → (k : ℕ) → Sums → Result Point
 fromSums s k sums =
     cond (eqb (sums .total) 0) (refused 9)

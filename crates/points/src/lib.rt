@@ -1,4 +1,4 @@
-// The points of the curve. Each function takes any record, any believed shape, any point number and tables of any length with any
+// The points of the curve. Each public function accepts any record, believed shape and point number, and tables of any length and
 // contents.
 use buckets::Reported;
 use buckets::Sums;
@@ -18,7 +18,7 @@ ghost use Rattle.rules.specs.Layout.{bucketsBefore};
 ghost use Rattle.rules.specs.Calls.{pointOf, plotOf};
 ghost use Rattle.points.specs.Points.{fromSums};
 
-// The point, from the report's sums.
+// The point with this number, from the sums of a report.
 fn point_of(s: Settings, number: u64, sums: Sums) -> Pointed
     requires { ⌜ (number ≤ mostBuckets) × (s .width ≤ mostWidth) × (sums .hits ≤ sums .total) ⌝ }
     ensures { λ r. ⌜ pointResult r ≡ fromSums s number sums ⌝ }
@@ -34,7 +34,7 @@ fn point_of(s: Settings, number: u64, sums: Sums) -> Pointed
     })
 }
 
-// A point of the curve, under the shape that the caller believes.
+// A point of the curve, for the shape that the caller believes it to have.
 pub fn point(
     kept: Record,
     believed: Shape,

@@ -1,4 +1,4 @@
--- The reader, over the rules of reading. Document 01, "Trace events". Assumes nothing.
+-- The reader, in terms of the rules of reading. Document 01, "Trace events". Assumes nothing.
 use Prim.Native.Nat.{ℕ, zero, suc, _+_}
 use mathlib.Core.List.{List, [], _∷_}
 use lib.ListN.{length, drop}
@@ -10,7 +10,7 @@ use Rattle.reader.specs.declared.Moved.{Moved}
 use Rattle.reader.specs.declared.Advanced.{Advanced}
 use Rattle.reader.specs.declared.Front.{Front}
 
--- what stands from a place on: nothing, where the place is beyond the bytes
+-- the bytes from a place on: none, if the place is past the end
 abbrev pub leftAt : (bytes : List ℕ) (at : ℕ) → List ℕ
 leftAt bytes at = drop at bytes
 
@@ -18,7 +18,7 @@ leftAt bytes at = drop at bytes
 abbrev pub readAt : (bytes : List ℕ) (at : ℕ) → Result Got
 readAt bytes at = readOf (leftAt bytes at)
 
--- the place past an event, or the same place where it is refused
+-- the place past an event, or the same place if it is refused
 abbrev pub past : (at : ℕ) → Result Got → ℕ
 past at (refused n) = at
 past at (gives g) = at + g .taken
@@ -52,35 +52,35 @@ nextOf r = record { result = readAt (now (r .src)) (r .at); reader = record { sr
 abbrev pub movedResult : Moved → Moving
 movedResult n = record { result = readingResult (n .reading); reader = n .reader }
 
--- an event before those that follow it; none, where it is refused
+-- an event and those that follow it; none, if it is refused
 abbrev pub before : Result Got → List Got → List Got
 before (refused n) rest = []
 before (gives g) rest = g ∷ rest
 
--- the whole events at the front of the bytes, each read from what the one before left unread, n of them at the most
+-- the whole events at the front of the bytes, each read from what the one before left unread, at most n of them
 abbrev pub wholeTo : (n : ℕ) → List ℕ → List Got
 wholeTo zero bytes = []
 wholeTo (suc n) bytes = before (readOf bytes) (wholeTo n (unreadOf bytes))
 
--- all of them: an event takes a byte at least
+-- all of them: an event takes at least one byte
 unfoldable pub wholeOf : List ℕ → List Got
 wholeOf bytes = wholeTo (length bytes) bytes
 
--- how many bytes events took together
+-- how many bytes the events took in total
 abbrev pub takenBy : List Got → ℕ
 takenBy [] = 0
 takenBy (g ∷ rest) = g .taken + takenBy rest
 
--- how many whole events stand at the front, and the place of the first refusal
+-- how many whole events are at the front, and the place of the first refusal
 abbrev pub frontOf : List ℕ → Front
 frontOf bytes = record { events = length (wholeOf bytes); at = takenBy (wholeOf bytes) }
 
--- what a reader's steps say, n of them
+-- the readings of n steps of a reader
 abbrev pub steps : (n : ℕ) → Reader → List (Result Got)
 steps zero r = []
 steps (suc n) r = nextOf r .result ∷ steps n (nextOf r .reader)
 
--- what reading says, with the unread part taken again and again
+-- n readings, each of what the one before left unread
 abbrev pub readings : (n : ℕ) → List ℕ → List (Result Got)
 readings zero bytes = []
 readings (suc n) bytes = readOf bytes ∷ readings n (unreadOf bytes)

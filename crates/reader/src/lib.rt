@@ -1,6 +1,6 @@
-// A reader keeps the lent bytes with its own place in them. Document 01, "Trace events".
-// The borrow checker covers no function over such a struct: `new`, `next`, `left` and `step` are proved by hand. So they
-// are thin, and the work is done by functions over the bytes and the place.
+// A reader holds the lent bytes and its own place in them. Document 01, "Trace events".
+// The borrow checker does not cover functions over such a struct, so `new`, `next`, `left` and `step` are proved by hand. They
+// are thin; the work is done by functions over the bytes and the place.
 ghost use mathlib.Core.Path.{_≡_};
 ghost use Rattle.reader.specs.Reader.{leftAt, stepAt, advancedResult, atFront, nextOf, movedResult, frontOf};
 use rules::Reading;
@@ -10,25 +10,25 @@ pub struct Reader<'a> {
     pub at: usize,
 }
 
-// The reading at a reader's place, with the reader moved past the event, or staying where it was refused.
+// The reading at a reader's place, and the reader past the event, or at the same place if the event was refused.
 pub struct Moved<'a> {
     pub reading: Reading,
     pub reader: Reader<'a>,
 }
 
-// The same of plain bytes: the reading at a place, with the place past the event, or the same place.
+// The same for plain bytes: the reading at a place, and the place past the event, or the same place if the event was refused.
 struct Advanced {
     reading: Reading,
     at: usize,
 }
 
-// How many whole events stand at the front, and the place of the first refusal.
+// How many whole events are at the front, and the place of the first refusal.
 pub struct Front {
     pub events: usize,
     pub at: usize,
 }
 
-// What stands from a place on: nothing, where the place is beyond the bytes.
+// The bytes from a place on: none, if the place is past the end.
 fn left_at(bytes: &[u8], at: usize) -> &[u8]
     ensures { λ r. ⌜ now r ≡ leftAt (now (bytes .entry)) at ⌝ }
 {
@@ -39,7 +39,7 @@ fn left_at(bytes: &[u8], at: usize) -> &[u8]
     }
 }
 
-// The work of a step.
+// A reader's step, over plain bytes.
 fn step_at(bytes: &[u8], at: usize) -> Advanced
     ensures { λ r. ⌜ advancedResult r ≡ stepAt (now (bytes .entry)) at ⌝ }
 {
@@ -60,7 +60,7 @@ pub fn new<'a>(src: &'a [u8]) -> Reader<'a>
     Reader { src, at: 0 }
 }
 
-// The reading at the reader's place, and the reader to go on with.
+// Reads at the reader's place, and returns the reading and the reader to continue with.
 pub fn next<'a>(r: Reader<'a>) -> Moved<'a>
     ensures { λ n. ⌜ movedResult n ≡ nextOf (r .entry) ⌝ }
 {
@@ -74,14 +74,14 @@ pub fn next<'a>(r: Reader<'a>) -> Moved<'a>
     }
 }
 
-// What is left to read, as a part of the caller's own bytes.
+// What is left to read, as a slice of the caller's own bytes.
 pub fn left<'a>(r: Reader<'a>) -> &'a [u8]
     ensures { λ s. ⌜ now s ≡ leftAt (now (r .entry .src)) (r .entry .at) ⌝ }
 {
     left_at(r.src, r.at)
 }
 
-// A reader's step with plain parameters, so that no caller needs a proof by hand.
+// `next` with plain parameters, so that no caller needs a proof by hand.
 fn step(bytes: &[u8], at: usize) -> Advanced
     ensures { λ s. ⌜ advancedResult s ≡ stepAt (now (bytes .entry)) at ⌝ }
 {
@@ -92,7 +92,7 @@ fn step(bytes: &[u8], at: usize) -> Advanced
     }
 }
 
-// The whole events at the front of the bytes, by a reader's steps.
+// Counts the whole events at the front of the bytes, by a reader's steps.
 pub fn whole_events(bytes: &[u8]) -> Front
     ensures { λ r. ⌜ r ≡ frontOf (now (bytes .entry)) ⌝ }
 {

@@ -77,7 +77,7 @@ fn rest(bytes: &[u8], at: usize) -> &[u8]
     &bytes[at..]
 }
 
-// What follows the first event, or all of the bytes when that event is refused.
+// What follows the first event, or all of the bytes if that event is refused.
 pub fn unread(bytes: &[u8]) -> &[u8]
     ensures { λ r. ⌜ now r ≡ unreadOf (now (bytes .entry)) ⌝ }
 {

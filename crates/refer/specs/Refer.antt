@@ -1,4 +1,4 @@
--- What the functions of one reference hand to each other. Assumes nothing.
+-- What the functions for one reference pass to each other. Assumes nothing.
 use Prim.Native.Nat.{ℕ, _+_}
 use mathlib.Core.Path.{_≡_}
 use mathlib.Core.Bool.{true, false, cond}
@@ -15,7 +15,7 @@ use Rattle.live.specs.Live.{Lowering, movedToFront, lowering, loweringOf}
 abbrev pub referredOf : Record → Answer → Referred
 referredOf kept a = record { kept = kept; answer = a }
 
--- one reference more, counted as sampled or not
+-- the record with this threshold and live number, one more reference, and `sampled` more sampled ones
 abbrev pub countedIn : Record → (threshold live sampled : ℕ) → Record
 countedIn kept threshold live sampled = record {
   settings = kept .settings;
@@ -24,14 +24,14 @@ countedIn kept threshold live sampled = record {
   numbers = record { references = kept .numbers .references + 1; sampled = kept .numbers .sampled + sampled };
 }
 
--- the live list with x at its front, lowered where there is no room for it
+-- the live list with x at its front, lowered if there is no room for it
 abbrev pub enteredOf : Record → (x : ℕ) → List ℕ → Lowering
 enteredOf kept x xs =
     cond (ltb (kept .live) (kept .settings .limit))
     (lowering (record { threshold = kept .threshold; live = kept .live + 1 }) (movedToFront (kept .live) x xs))
     (loweringOf (hashFor (kept .settings)) (kept .threshold) (kept .live) x xs)
 
--- nothing refuses a reference to x but its bucket, and its hash is below the threshold
+-- only its bucket can still refuse a reference to x, and the hash of x is below the threshold
 pub record Samples (x : ℕ) (s : Tracker) : Type 0 where
   pub record-whole : tornRecord (s .kept) ≡ false
   pub tables-long : tooShort (s .kept .settings) (s .tables) ≡ false

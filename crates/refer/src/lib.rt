@@ -1,5 +1,5 @@
-// One reference: the tests, the hash, the live list and the bucket. It takes any record, tables of any length with any contents, and
-// any location.
+// One reference: the tests, the hash, the live list and the bucket. `refer` accepts any record, any location, and tables of any length
+// and contents.
 use live::Found;
 use live::Lowered;
 use rules::Answer;
@@ -21,7 +21,7 @@ ghost use Rattle.rules.specs.Calls.{referOf};
 ghost use Rattle.refer.specs.Refer.{referredOf, countedIn, enteredOf, Samples};
 ghost use Rattle.live.specs.Live.{lowering};
 
-// A refusal, with the record as it was.
+// A refusal, with the record unchanged.
 fn refused(kept: Record, why: Refusal) -> Referred
     ensures { λ r. ⌜ r ≡ referredOf kept (Answer.Refused why) ⌝ }
 {
@@ -31,7 +31,7 @@ fn refused(kept: Record, why: Refusal) -> Referred
     }
 }
 
-// The record after a reference that was answered so, with this threshold and so many live.
+// The record with this threshold and live number, one more reference, and `sampled` more sampled ones.
 fn counted_in(kept: Record, threshold: u64, live: u64, sampled: u64) -> Record
     requires { ⌜ (kept .numbers .references < mostReferences) × (kept .numbers .sampled ≤ kept .numbers .references)
         × (sampled ≤ 1) ⌝ }
@@ -49,7 +49,7 @@ fn counted_in(kept: Record, threshold: u64, live: u64, sampled: u64) -> Record
     }
 }
 
-// The distance of a place in the live list, as it counts at full rate.
+// The distance of a place in the live list, scaled to full rate.
 fn scaled_distance(place: usize, threshold: u64) -> u64
     requires { ⌜ (place < mostLimit) × (0 < threshold) ⌝ }
     ensures { λ r. ⌜ r ≡ scaledDistance threshold place ⌝ }
@@ -57,7 +57,7 @@ fn scaled_distance(place: usize, threshold: u64) -> u64
     (place as u64) * FULL_RATE / threshold
 }
 
-// A sampled reference to a location that stands at a place of the live list.
+// A sampled reference to a location that first occurs at `place` in the live list.
 fn again_at(
     kept: Record,
     location: u64,
@@ -86,8 +86,8 @@ fn again_at(
     }
 }
 
-// A location that is not in the live list enters it at the front, and the threshold falls where there is no room for it: the threshold
-// and the live number after that.
+// Puts a location at the front of the live list, and lowers the threshold if there is no room for it. Returns the threshold and the
+// live number after that.
 fn enter(kept: Record, location: u64, locations: &mut [u64]) -> Lowered
     ensures { λ r. ⌜ lowering r (now (locations .exit)) ≡ enteredOf kept location (now (locations .entry)) ⌝ }
 {
@@ -135,7 +135,7 @@ fn first_time(
     }
 }
 
-// A sampled reference: to a location of the live list, or a first one.
+// A sampled reference, to a location in the live list or to a new one.
 fn sampled(
     kept: Record,
     location: u64,

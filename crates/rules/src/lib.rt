@@ -1,16 +1,16 @@
-// The types that every crate shares: settings, the record, the answers, the trace events; and the numbers of document 01. Nothing here
-// runs.
+// The types that the crates share: settings, the record, the answers, the trace events; and the numbers of document 01. There are no
+// functions here.
 
 // P, full rate: every hash is below it, so a threshold of P samples every location.
 pub const FULL_RATE: u64 = 0x100_0000;
 
-// One reference, in the units of counts.
+// One reference, in the units of the counts.
 pub const ONE_REFERENCE: u64 = 256;
 
-// At most so many references are made in a run.
+// The largest number of references in a run.
 pub const MOST_REFERENCES: u64 = 0xffff_ffff;
 
-// The largest settings that are allowed. T0 is at most FULL_RATE, the hash kind at most MOST_KIND.
+// The largest allowed settings. T0 is at most FULL_RATE, the hash kind at most MOST_KIND.
 pub const MOST_LIMIT: u64 = 8192;
 
 pub const MOST_WIDTH: u64 = 0xffff_ffff;
@@ -19,7 +19,7 @@ pub const MOST_BUCKETS: u64 = 10000;
 
 pub const MOST_KIND: u64 = 1;
 
-// What a setting of zero means.
+// The defaults, which settings of zero stand for.
 pub const DEFAULT_LIMIT: u64 = 1024;
 
 pub const DEFAULT_START: u64 = 1677721;
@@ -28,10 +28,10 @@ pub const DEFAULT_WIDTH: u64 = 1;
 
 pub const DEFAULT_BUCKETS: u64 = 256;
 
-// The bytes of a block.
+// The size of a block in bytes.
 pub const BLOCK_BYTES: u64 = 4096;
 
-// The bytes of an event, by its kind.
+// The length of an event in bytes, by its kind.
 pub const LOCATION_BYTES: usize = 9;
 
 pub const SPAN_BYTES: usize = 13;
@@ -40,7 +40,7 @@ pub const RESTART_BYTES: usize = 1;
 
 pub const SETUP_BYTES: usize = 18;
 
-// Which hash a location gets.
+// The hash that is used for locations.
 pub struct Hashing {
     pub kind: u64,
 }
@@ -54,13 +54,13 @@ pub struct Settings {
     pub hashing: Hashing,
 }
 
-// How many references there were since the fresh start, and how many of them were sampled.
+// The number of references since the last fresh start, and how many of them were sampled.
 pub struct Numbers {
     pub references: u64,
     pub sampled: u64,
 }
 
-// The record: what a tracker holds beside its tables. Its settings are those after defaults.
+// The record: what a tracker holds besides its tables. Its settings are those after defaults.
 pub struct Record {
     pub settings: Settings,
     pub threshold: u64,
@@ -80,15 +80,15 @@ pub enum Refusal {
     Settings,
     // A lent table, or a buffer for an event, is too short.
     Tables,
-    // The record or a bucket holds what no run leaves there.
+    // The record or a bucket holds values that no run leaves there.
     Torn,
     // No more references can be counted.
     Full,
-    // The curve has another shape than the caller believes.
+    // The curve does not have the shape that the caller believes.
     Stale,
-    // There is no point of that number.
+    // There is no point with that number.
     Point,
-    // The bytes end before an event does.
+    // The bytes end before the event does.
     Short,
     // No event has that kind.
     Kind,
@@ -108,15 +108,15 @@ pub enum Started {
 pub enum Answer {
     // The location is not sampled.
     Skipped,
-    // It is in the live list, at this place counted from 0: its distance.
+    // It was in the live list, at this place, counted from 0, which is its distance.
     Again(u64),
-    // It is sampled, and was not in the list.
+    // It is sampled, and was not in the live list.
     First,
     // Nothing was counted or changed.
     Refused(Refusal),
 }
 
-// The answer to a reference, with the record as it is then.
+// The answer to a reference, and the record after it.
 pub struct Referred {
     pub kept: Record,
     pub answer: Answer,
@@ -130,29 +130,29 @@ pub struct Point {
     pub total: u64,
 }
 
-// The answer to a point asked for.
+// The answer to a request for a point.
 pub enum Pointed {
     // The point.
     At(Point),
-    // There is none to give.
+    // No point is given.
     Refused(Refusal),
 }
 
-// A point as the desk plotter takes it: the size, and misses divided by total.
+// A point as the desk plotter expects it: the size, and misses divided by total.
 pub struct PlotPoint {
     pub size: f64,
     pub ratio: f64,
 }
 
-// The answer to a point asked for as a pair of doubles.
+// The answer to a request for a point as a pair of doubles.
 pub enum Plotted {
     // The pair.
     At(PlotPoint),
-    // There is none to give.
+    // No point is given.
     Refused(Refusal),
 }
 
-// The body of a kind 4 event, as its bytes have it: zeros are zeros still.
+// The body of a kind 4 event, exactly as in its bytes: zeros are not replaced by defaults.
 pub struct SetupBody {
     pub limit: u32,
     pub start: u32,
@@ -165,7 +165,7 @@ pub struct SetupBody {
 pub enum Event {
     // One reference to a location.
     Location(u64),
-    // Bytes that were read or written, from an offset on.
+    // A range of bytes that was read or written.
     Span { offset: u64, length: u32 },
     // A fresh start with the same settings.
     Restart,
@@ -173,7 +173,7 @@ pub enum Event {
     Setup(SetupBody),
 }
 
-// The answer of reading.
+// The result of reading.
 pub enum Reading {
     // An event, with the number of bytes it took.
     Got(Event, usize),
@@ -181,7 +181,7 @@ pub enum Reading {
     Refused(Refusal),
 }
 
-// The answer of writing.
+// The result of writing.
 pub enum Written {
     // How many bytes were filled.
     Filled(usize),
@@ -191,13 +191,13 @@ pub enum Written {
 
 // The answer to a trace event.
 pub enum Taken {
-    // All of it was taken.
+    // The event was accepted.
     Whole,
     // The call that it stands for was refused.
     Refused(Refusal),
 }
 
-// The answer to a trace event, with the record as it is then.
+// The answer to a trace event, and the record after it.
 pub struct Applied {
     pub kept: Record,
     pub answer: Taken,

@@ -1,4 +1,4 @@
-// Fresh starts: setup and restart. Each takes any settings or record, and tables of any length with any contents.
+// Fresh starts: setup and restart. Both accept any settings or record, and tables of any length and contents.
 use rules::DEFAULT_BUCKETS;
 use rules::DEFAULT_LIMIT;
 use rules::DEFAULT_START;
@@ -39,7 +39,7 @@ fn with_defaults(given: Settings) -> Settings
     }
 }
 
-// The first n buckets as a fresh start has them.
+// Resets the first n buckets: counts to 0, bucket thresholds to `start`.
 fn clear(counts: &mut [u64], thresholds: &mut [u32], n: usize, start: u32)
     requires { ⌜ (n ≤ length (now counts)) × (n ≤ length (now thresholds)) ⌝ }
     ensures { λ _. ⌜ now (counts .exit) ≡ over (replicate n 0) (now (counts .entry)) ⌝ }

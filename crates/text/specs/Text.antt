@@ -14,12 +14,12 @@ use Rattle.rules.specs.Calls.{ownPoint}
 
 -- ---- numbers
 
--- in decimal, if so many digits are enough
+-- a number in decimal, if this many digits are enough
 abbrev pub decimalMost : (digits n : ℕ) → List ℕ
 decimalMost zero n = []
 decimalMost (suc digits) n = cond (ltb n 10) ((48 + n) ∷ []) (decimalMost digits (n / 10) ++ ((48 + n % 10) ∷ []))
 
--- in decimal: 20 digits are enough for 64 bits
+-- a number in decimal; 20 digits are enough for 64 bits
 unfoldable pub decimal : ℕ → List ℕ
 decimal n = decimalMost 20 n
 
@@ -77,13 +77,13 @@ firstLine kept =
 abbrev pub pointLine : Point → List ℕ
 pointLine p = decimal (p .size) ++ ((space ++ decimal (p .misses)) ++ ((space ++ decimal (p .total)) ++ newline))
 
--- a refused event, with its number and the place of its first byte
+-- the line for a refused event: the refusal's number and the place of the event's first byte
 unfoldable pub refusedLine : (number place : ℕ) → List ℕ
 refusedLine number place = (refusedWord ++ decimal number) ++ ((atWord ++ decimal place) ++ newline)
 
 -- ---- the curve
 
--- the line of a point, where it is answered
+-- the line of a point, or nothing if the point is refused
 abbrev pub lineOf : Result Point → List ℕ
 lineOf (refused n) = []
 lineOf (gives p) = pointLine p
@@ -93,7 +93,7 @@ unfoldable pub linesTo : ℕ → Record → Histogram → List ℕ
 linesTo zero kept g = []
 linesTo (suc n) kept g = linesTo n kept g ++ lineOf (ownPoint kept n g)
 
--- a line per point and `end`; if the curve is empty, `empty` stands in their place
+-- one line for each point and `end`, or `empty` if point 0 is refused
 abbrev pub pointsOr : Result Point → Record → Histogram → List ℕ
 pointsOr (refused n) kept g = emptyLine
 pointsOr (gives p) kept g = linesTo (kept .settings .buckets + 1) kept g ++ endLine
@@ -103,14 +103,14 @@ curveText kept g = firstLine kept ++ pointsOr (ownPoint kept 0 g) kept g
 
 -- ---- text in a buffer
 
--- the first bytes of a buffer were the first `at` of those before, and have now a text behind them; what is behind the text is as it was
+-- the first `at` bytes of a buffer are as before, a text follows them up to `end`, and the bytes after the text are as before
 pub record Adds (before : List ℕ) (at : ℕ) (text after : List ℕ) (end : ℕ) : Type 0 where
   pub front : take end after ≡ take at before ++ text
   pub behind : drop end after ≡ drop end before
   pub ends : end ≡ at + length text
   pub fits : end ≤ length after
 
--- what a call answers, and the buffer as it leaves it
+-- what a call returns, and the buffer as it leaves it
 pub record Placed : Type 0 where
   pub count : ℕ
   pub buffer : List ℕ
@@ -118,11 +118,11 @@ pub record Placed : Type 0 where
 abbrev pub placed : (count : ℕ) (buffer : List ℕ) → Placed
 placed count buffer = record { count = count; buffer = buffer }
 
--- the text over the front of the buffer, and how many bytes it has; where room is lacking, nothing
+-- the text over the front of the buffer, and its length; nothing and 0 if room is lacking
 abbrev pub frontOr : (lacking : Bool) → (text buffer : List ℕ) → Placed
 frontOr lacking text buffer = cond lacking (placed 0 buffer) (placed (length text) (over text buffer))
 
--- the longest curve that the program's tables give, of 1,025 points, has less than 65,536 bytes
+-- the longest curve that fits the program's tables, of 1,025 points, has fewer than 65,536 bytes
 abbrev pub curveIn : Record → Histogram → (buffer : List ℕ) → Placed
 curveIn kept g buffer = frontOr (ltb (length buffer) 65536 || ltb 1026 (length (g .counts))) (curveText kept g) buffer
 

@@ -1,4 +1,4 @@
-// The curve as text, and the line of a refused event, at the front of a buffer. Document 01, "The curve program".
+// Writes the curve as text, or the line for a refused event, at the front of a buffer. Document 01, "The curve program".
 use rules::Point;
 use rules::Pointed;
 use rules::Record;
@@ -12,7 +12,7 @@ ghost use Rattle.rules.specs.Layout.{bucketsBefore};
 ghost use Rattle.rules.specs.Calls.{ownPoint};
 ghost use Rattle.text.specs.Text.{decimal, newline, firstLine, pointLine, lineOf, linesTo, pointsOr, Adds, placed, curveIn, refusedIn};
 
-// ---- text in a buffer, behind the first bytes of it
+// ---- text in a buffer, after its first `at` bytes
 
 fn put(out: &mut [u8], at: usize, text: &[u8]) -> usize
     requires { ⌜ at + length (now text) ≤ length (now out) ⌝ }
@@ -45,7 +45,7 @@ fn put_both(out: &mut [u8], at: usize, word: &[u8], n: u64) -> usize
     put_number(out, after, n)
 }
 
-// The last two numbers of a line, each behind its word, and the line's end.
+// The last two numbers of a line, each after its word, and the newline.
 fn put_last_two(out: &mut [u8], at: usize, word: &[u8], n: u64, other: &[u8], m: u64) -> usize
     requires { ⌜ at + length (now word) + length (now other) + 41 ≤ length (now out) ⌝ }
     ensures { λ r. ⌜ Adds (now (out .entry)) at
@@ -57,7 +57,7 @@ fn put_last_two(out: &mut [u8], at: usize, word: &[u8], n: u64, other: &[u8], m:
     put(out, two, b"\n")
 }
 
-// References, sampled references, threshold and live number.
+// The first line: references, sampled references, threshold and live number.
 fn put_first_line(out: &mut [u8], kept: Record) -> usize
     requires { ⌜ 118 ≤ length (now out) ⌝ }
     ensures { λ r. ⌜ Adds (now (out .entry)) 0 (firstLine kept) (now (out .exit)) r ⌝ }
@@ -75,7 +75,7 @@ fn put_first_line(out: &mut [u8], kept: Record) -> usize
     )
 }
 
-// Size, misses and total.
+// The line of a point: size, misses and total.
 fn put_point_line(out: &mut [u8], at: usize, p: Point) -> usize
     requires { ⌜ at + 63 ≤ length (now out) ⌝ }
     ensures { λ r. ⌜ Adds (now (out .entry)) at (pointLine p) (now (out .exit)) r ⌝ }
@@ -87,7 +87,7 @@ fn put_point_line(out: &mut [u8], at: usize, p: Point) -> usize
 
 // ---- the curve
 
-// A point, for the shape that the record itself has.
+// A point, for the record's own shape.
 fn point_at(kept: Record, number: u64, counts: &[u64], thresholds: &[u32]) -> Pointed
     ensures { λ r. ⌜ pointResult r ≡ ownPoint kept number (bucketsBefore counts thresholds) ⌝ }
 {
@@ -98,7 +98,7 @@ fn point_at(kept: Record, number: u64, counts: &[u64], thresholds: &[u32]) -> Po
     points::point(kept, shape, number, counts, thresholds)
 }
 
-// The line of a point, where it is answered.
+// The line of a point, or nothing if the point is refused.
 fn put_point(
     out: &mut [u8],
     at: usize,
@@ -117,7 +117,7 @@ fn put_point(
     }
 }
 
-// A line per point, 0 to B.
+// One line for each point, 0 to B.
 fn put_points(out: &mut [u8], at: usize, kept: Record, counts: &[u64], thresholds: &[u32]) -> usize
     requires { ⌜ (at ≤ 118) × (kept .settings .buckets ≤ 1024) × (65536 ≤ length (now out)) ⌝ }
     ensures { λ r. ⌜ Adds (now (out .entry)) at (linesTo (kept .settings .buckets + 1) kept (bucketsBefore counts thresholds)) (now (out .exit)) r ⌝ }
@@ -150,7 +150,8 @@ fn put_body(out: &mut [u8], at: usize, kept: Record, counts: &[u64], thresholds:
 
 // ---- at the front of a buffer
 
-// The curve. A buffer that is shorter than 65,536 bytes, and more counts than the program has, get nothing and 0.
+// Writes the curve and returns its length. Writes nothing and returns 0 if the buffer has fewer than 65,536 bytes, or if there are more
+// than 1,026 counts.
 pub fn put_curve(out: &mut [u8], kept: Record, counts: &[u64], thresholds: &[u32]) -> usize
     ensures { λ r. ⌜ placed r (now (out .exit)) ≡ curveIn kept (bucketsBefore counts thresholds) (now (out .entry)) ⌝ }
 {
@@ -161,7 +162,8 @@ pub fn put_curve(out: &mut [u8], kept: Record, counts: &[u64], thresholds: &[u32
     put_body(out, first, kept, counts, thresholds)
 }
 
-// A refused event's number, and the place of its first byte. A buffer that is shorter than 53 bytes gets nothing and 0.
+// Writes the line for a refused event, with the refusal's number and the place of the event's first byte, and returns its length.
+// Writes nothing and returns 0 if the buffer has fewer than 53 bytes.
 pub fn put_refused_line(out: &mut [u8], number: u64, place: u64) -> usize
     ensures { λ r. ⌜ placed r (now (out .exit)) ≡ refusedIn number place (now (out .entry)) ⌝ }
 {

@@ -1,4 +1,4 @@
--- The record and what a call answers, as words: what crosses to C. Assumes nothing.
+-- The record and the answers of calls as words, the form in which they cross to C. Assumes nothing.
 use Prim.Native.Nat.{ℕ}
 use mathlib.Core.List.{List, [], _∷_}
 use lib.ListN.{getD}
@@ -42,7 +42,7 @@ pointWords p = p .size ∷ p .hits ∷ p .misses ∷ p .total ∷ []
 abbrev pub plotWords : PlotPoint → List Float
 plotWords p = p .size ∷ p .ratio ∷ []
 
--- the kind, the bytes taken, then the numbers of the body, and zeros
+-- the kind, the number of bytes taken, the numbers of the body, then zeros
 abbrev pub kindAndBody : Event → (taken : ℕ) → List ℕ
 kindAndBody (Location x) n = 1 ∷ n ∷ x ∷ 0 ∷ 0 ∷ 0 ∷ 0 ∷ []
 kindAndBody (Span offset bytes) n = 2 ∷ n ∷ offset ∷ bytes ∷ 0 ∷ 0 ∷ 0 ∷ []
@@ -52,9 +52,9 @@ kindAndBody (Setup b) n = 4 ∷ n ∷ b .limit ∷ b .start ∷ b .width ∷ b .
 abbrev pub eventWords : Got → List ℕ
 eventWords g = kindAndBody (g .event) (g .taken)
 
--- ---- what a call answers
+-- ---- the words after a call
 
--- the words of what is given; a refusal leaves those that stood there
+-- the words of what the call gives; a refusal leaves the old words
 abbrev pub orOld : {A C : Type 0} → (A → C) → Result A → C → C
 orOld words (refused n) old = old
 orOld words (gives a) old = words a

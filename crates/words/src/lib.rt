@@ -1,4 +1,4 @@
-// The record and what a call answers, as words: what crosses to C. A refusal leaves the words that stood there.
+// The record and the answers of calls as words, the form in which they cross to C. A refusal leaves the old words.
 use rules::Answer;
 use rules::Event;
 use rules::Hashing;
@@ -15,7 +15,7 @@ ghost use Rattle.words.specs.Words.{recordOf, wordsOf, replyWords, point
 
 // ---- the record
 
-// The record's words, as a record. This and words_of alone know their order.
+// The record that the words stand for. Only this function and words_of know the order of the words.
 pub fn record_of(words: [u64; 9]) -> Record
     ensures { λ r. ⌜ r ≡ recordOf words ⌝ }
 {
@@ -36,7 +36,7 @@ pub fn record_of(words: [u64; 9]) -> Record
     }
 }
 
-// A record's words.
+// The words of a record.
 pub fn words_of(kept: Record) -> [u64; 9]
     ensures { λ r. ⌜ r ≡ wordsOf kept ⌝ }
 {
@@ -111,7 +111,7 @@ pub fn plot_words(answer: Plotted, old: [f64; 2]) -> [f64; 2]
     }
 }
 
-// An event: its kind, the number of bytes it took, the numbers of its body.
+// An event: its kind, the number of bytes it took, and the numbers of its body.
 pub fn event_words(event: Event, taken: usize) -> [u64; 7]
     ensures { λ r. ⌜ r ≡ kindAndBody event taken ⌝ }
 {
@@ -132,7 +132,7 @@ pub fn event_words(event: Event, taken: usize) -> [u64; 7]
     }
 }
 
-// ---- 0 when accepted, or the refusal's number
+// ---- 0 if accepted, otherwise the refusal's number
 
 pub fn number_started(answer: Started) -> u64
     ensures { λ r. ⌜ r ≡ numberOf (startedResult answer) ⌝ }

@@ -78,7 +78,7 @@ fn size(event: Event) -> usize
     }
 }
 
-// Fills exactly the event's length from the front of the buffer, and answers that length.
+// Writes the event to the front of the buffer, filling exactly its length, and returns that length.
 pub fn write(event: Event, buffer: &mut [u8]) -> Written
     ensures { λ r. ⌜ outcome (writtenResult r) (now (buffer .exit)) ≡ writeOf event (now (buffer .entry)) ⌝ }
 {
