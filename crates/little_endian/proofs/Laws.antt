@@ -2,7 +2,7 @@
 -- for any place are those of the rules. Assumes nothing.
 use Prim.Native.Nat.{ℕ, _+_, _-_, _/_, _%_, _^_, _≤_, _<_}
 use mathlib.Core.Path.{_≡_, sym, ap, _∙_}
-use mathlib.Core.Bool.{true, false}
+use mathlib.Core.Bool.{false}
 use mathlib.Core.List.{List, _++_}
 use native.Mathlib.Nat.{zero-add}
 use native.Mathlib.Omega.{arith}
@@ -59,6 +59,7 @@ then : (at : ℕ) (bytes : List ℕ) {left before after : List ℕ} → before �
 then at bytes is put = put ∙ ap (λ (z : List ℕ). sets z at bytes) is
 
 -- the low m bytes of a number, and the n others behind them
-pub halves : (m n at x : ℕ) (l : List ℕ) {before after : List ℕ} → before ≡ sets l at (bytesOf m (x % 256 ^ m)) → after ≡ sets before (at + m) (bytesOf n (x / 256 ^ m))
+pub halves : (m n at x : ℕ) (l : List ℕ) {before after : List ℕ}
+    → before ≡ sets l at (bytesOf m (x % 256 ^ m)) → after ≡ sets before (at + m) (bytesOf n (x / 256 ^ m))
     → after ≡ sets l at (bytesOf (m + n) x)
 halves m n at x l low high = then (at + m) (bytesOf n (x / 256 ^ m)) low high ∙ puts-two m n at x l

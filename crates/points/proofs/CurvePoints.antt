@@ -29,31 +29,41 @@ use Rattle.buckets.proofs.Laws.{report-needed}
 use Rattle.points.specs.Points.{fromSums}
 use Rattle.points.proofs.Doubles.{quotient}
 
-module _ (kept : Record) (believed : Shape) (n : ℕ) (g : Histogram) (e : tornRecord kept ≡ false) (f : bucketsTooShort (kept .settings) g ≡ false) (h : stale believed (kept .settings) ≡ false) (l : n ≤ kept .settings .buckets) where
+-- the record is not torn, the histogram is long enough, the shape is the record's, and the number is on the curve
+module _ (kept : Record) (believed : Shape) (n : ℕ) (g : Histogram)
+    (e : tornRecord kept ≡ false) (f : bucketsTooShort (kept .settings) g ≡ false)
+    (h : stale believed (kept .settings) ≡ false) (l : n ≤ kept .settings .buckets) where
   no-point : ltb (kept .settings .buckets) n ≡ false
   no-point = le-ltb (kept .settings .buckets) n l
 
   report-is : reportOf (kept .numbers .references) (kept .threshold) (needed (kept .settings .buckets)) n g
-      ≡ cond (tornReport (kept .numbers .references) (kept .threshold) (kept .settings .buckets) g) (refused 3) (gives (record { hits = hitsAt (kept .threshold) n g; total = totalOf (kept .threshold) (kept .settings .buckets) g }))
+      ≡ cond (tornReport (kept .numbers .references) (kept .threshold) (kept .settings .buckets) g)
+      (refused 3)
+      (gives (record { hits = hitsAt (kept .threshold) n g; total = totalOf (kept .threshold) (kept .settings .buckets) g }))
   report-is = let long = buckets-long (kept .settings) g f in
-      report-needed (kept .numbers .references) (kept .threshold) (kept .settings .buckets) g (long .counts-long) (long .thresholds-long) n (omega arith)
+      report-needed (kept .numbers .references) (kept .threshold) (kept .settings .buckets) g
+      (long .counts-long) (long .thresholds-long) n (omega arith)
 
-  report-torn : tornReport (kept .numbers .references) (kept .threshold) (kept .settings .buckets) g ≡ true → reportOf (kept .numbers .references) (kept .threshold) (needed (kept .settings .buckets)) n g ≡ refused 3
+  report-torn : tornReport (kept .numbers .references) (kept .threshold) (kept .settings .buckets) g ≡ true
+      → reportOf (kept .numbers .references) (kept .threshold) (needed (kept .settings .buckets)) n g ≡ refused 3
   report-torn t = report-is ∙ rw t
 
   report-sums : tornReport (kept .numbers .references) (kept .threshold) (kept .settings .buckets) g ≡ false
-      → reportOf (kept .numbers .references) (kept .threshold) (needed (kept .settings .buckets)) n g ≡ gives (record { hits = hitsAt (kept .threshold) n g; total = totalOf (kept .threshold) (kept .settings .buckets) g })
+      → reportOf (kept .numbers .references) (kept .threshold) (needed (kept .settings .buckets)) n g
+      ≡ gives (record { hits = hitsAt (kept .threshold) n g; total = totalOf (kept .threshold) (kept .settings .buckets) g })
   report-sums t = report-is ∙ rw t
 
   -- the report is torn
-  pub from-torn : refused 3 ≡ reportOf (kept .numbers .references) (kept .threshold) (needed (kept .settings .buckets)) n g → refused 3 ≡ pointOf kept believed n g
+  pub from-torn : refused 3 ≡ reportOf (kept .numbers .references) (kept .threshold) (needed (kept .settings .buckets)) n g
+      → refused 3 ≡ pointOf kept believed n g
   from-torn r = cases (tornReport (kept .numbers .references) (kept .threshold) (kept .settings .buckets) g)
       (λ t. sym (point-buckets kept believed n g e f h no-point t))
       (λ t. absurd (not-both (sym r) (report-sums t)))
 
   -- it has its sums
   module _ (sums : Sums) (r : gives sums ≡ reportOf (kept .numbers .references) (kept .threshold) (needed (kept .settings .buckets)) n g) where
-    whole-report : (tornReport (kept .numbers .references) (kept .threshold) (kept .settings .buckets) g ≡ false) × (sums ≡ record { hits = hitsAt (kept .threshold) n g; total = totalOf (kept .threshold) (kept .settings .buckets) g })
+    whole-report : (tornReport (kept .numbers .references) (kept .threshold) (kept .settings .buckets) g ≡ false)
+        × (sums ≡ record { hits = hitsAt (kept .threshold) n g; total = totalOf (kept .threshold) (kept .settings .buckets) g })
     whole-report = cases (tornReport (kept .numbers .references) (kept .threshold) (kept .settings .buckets) g)
         (λ t. absurd (not-both (report-torn t) (sym r)))
         (λ t. (t, same (r ∙ report-sums t)))
@@ -64,7 +74,14 @@ module _ (kept : Record) (believed : Shape) (n : ℕ) (g : Histogram) (e : tornR
     pub from-sums : fromSums (kept .settings) n sums ≡ pointOf kept believed n g
     from-sums = rw (whole-report .1) (cases (eqb (totalOf (kept .threshold) (kept .settings .buckets) g) 0)
         (λ z. rw z (sym (point-empty kept believed n g e f h no-point (whole-report .0) z)))
-        (λ z. rw z (sym (point-given kept believed n g (record { record-whole = e; buckets-long = f; shape-same = h; on-curve = no-point; report-whole = whole-report .0; some-total = z })))))
+        (λ z. rw z (sym (point-given kept believed n g (record {
+          record-whole = e;
+          buckets-long = f;
+          shape-same = h;
+          on-curve = no-point;
+          report-whole = whole-report .0;
+          some-total = z;
+        })))))
 
     pub sums-ordered : sums .hits ≤ sums .total
     sums-ordered = rw (whole-report .1) (sum-rises (kept .threshold) g n (needed (kept .settings .buckets)) (omega arith))
@@ -79,14 +96,17 @@ pub record InDouble (p : Point) : Type 0 where
 
 pub in-double : (kept : Record) (believed : Shape) (n : ℕ) (g : Histogram) (p : Point) → pointOf kept believed n g ≡ gives p → InDouble p
 in-double kept believed n g p a = let w = point-accepted kept believed n g a in
-    fits (w .record-whole) (ltb-false (kept .settings .buckets) n (w .on-curve)) (w .report-whole) (eqb-false (totalOf (kept .threshold) (kept .settings .buckets) g) 0 (w .some-total))
+    fits (w .record-whole) (ltb-false (kept .settings .buckets) n (w .on-curve)) (w .report-whole)
+    (eqb-false (totalOf (kept .threshold) (kept .settings .buckets) g) 0 (w .some-total))
     (same (sym (point-given kept believed n g w) ∙ a))
   where
     same : {a b : Point} → gives a ≡ gives b → a ≡ b
     same q = cc
 
-    fits : tornRecord kept ≡ false → n ≤ kept .settings .buckets → tornReport (kept .numbers .references) (kept .threshold) (kept .settings .buckets) g ≡ false
-        → (totalOf (kept .threshold) (kept .settings .buckets) g ≡ 0 → ⊥) → curvePoint (profileOf (kept .settings)) (kept .threshold) n g ≡ p → InDouble p
+    fits : tornRecord kept ≡ false → n ≤ kept .settings .buckets
+        → tornReport (kept .numbers .references) (kept .threshold) (kept .settings .buckets) g ≡ false
+        → (totalOf (kept .threshold) (kept .settings .buckets) g ≡ 0 → ⊥)
+        → curvePoint (profileOf (kept .settings)) (kept .threshold) n g ≡ p → InDouble p
     fits e l t z q =
         let w = whole kept e in
         let high = total-high (kept .numbers .references) (kept .threshold) g (kept .settings .buckets) t in
@@ -98,8 +118,15 @@ in-double kept believed n g p a = let w = point-accepted kept believed n g a in
         })
 
 -- the doubles are those of the rules: the size exactly, and the exact quotient rounded once
-pub doubles : (p : Point) → InDouble p → record { size = round binary64 false (p .size) 1; ratio = div binary64 (round binary64 false (p .misses) 1) (round binary64 false (p .total) 1) } ≡ plotPoint p
-doubles p d = λ i. record { size = round binary64 false (p .size) 1; ratio = quotient binary64 (p .misses) (p .total) (d .misses-fit) (d .total-fits) (d .total-some) i }
+pub doubles : (p : Point) → InDouble p
+    → record {
+      size = round binary64 false (p .size) 1;
+      ratio = div binary64 (round binary64 false (p .misses) 1) (round binary64 false (p .total) 1);
+    } ≡ plotPoint p
+doubles p d = λ i. record {
+  size = round binary64 false (p .size) 1;
+  ratio = quotient binary64 (p .misses) (p .total) (d .misses-fit) (d .total-fits) (d .total-some) i;
+}
 
 pub size-exact : (p : Point) → InDouble p → HasValue (plotPoint p .size) false (p .size) 1
 size-exact p d = round-whole binary64 false (p .size) (d .size-fits)

@@ -13,7 +13,7 @@ use Rattle.rules.specs.declared.Record.{Record}
 use Rattle.rules.specs.declared.Refusal.the-variants as refusal
 use Rattle.rules.specs.declared.Answer.the-variants as answer
 use Rattle.rules.specs.Lists.{over}
-use Rattle.rules.specs.Settings.{needed, mostReferences, Tables}
+use Rattle.rules.specs.Settings.{needed, mostReferences}
 use Rattle.rules.specs.Reference.{firstPlace, toFront, under, recordIn, bucketFor, withinLimit, sampledStep, again, first, skipped}
 use Rattle.rules.specs.Answers.{refused, gives, replyResult}
 use Rattle.rules.specs.Order.{outcome}
@@ -47,7 +47,11 @@ module _ (x : ℕ) (kept : Record) (ls cs ts : List ℕ) (w : Samples x (tracker
 
   -- it can be counted, as sampled too
   pub countable : (kept .numbers .references < mostReferences) × (kept .numbers .sampled ≤ kept .numbers .references) × (1 ≤ 1)
-  countable = (omega (arith, bounds .references-high, eqb-false (kept .numbers .references) mostReferences (w .room)), bounds .sampled-high, omega arith)
+  countable = (
+    omega (arith, bounds .references-high, eqb-false (kept .numbers .references) mostReferences (w .room)),
+    bounds .sampled-high,
+    omega arith,
+  )
 
   pub threshold-some : 0 < kept .threshold
   threshold-some = omega (arith, ltb-true (hashFor (kept .settings) x) (kept .threshold) (w .below))
@@ -56,7 +60,8 @@ module _ (x : ℕ) (kept : Record) (ls cs ts : List ℕ) (w : Samples x (tracker
   counted-live = length-take-le (kept .live) ls (omega (arith, bounds .live-high, long .locations-long))
 
   -- by the place in the live list, and the bucket that goes with it
-  module _ (place : Option ℕ) (found : firstPlace x (liveOf s) ≡ place) (j : ℕ) (is : j ≡ bucketFor (profileOf (kept .settings)) (kept .threshold) place) where
+  module _ (place : Option ℕ) (found : firstPlace x (liveOf s) ≡ place)
+      (j : ℕ) (is : j ≡ bucketFor (profileOf (kept .settings)) (kept .threshold) place) where
     in-needed : j < needed (kept .settings .buckets)
     in-needed = rw is (bucket-needed (profileOf (kept .settings)) (profile-cut (kept .settings) (bounds .range) .far) (kept .threshold) place)
 
@@ -64,28 +69,41 @@ module _ (x : ℕ) (kept : Record) (ls cs ts : List ℕ) (w : Samples x (tracker
     torn-same = rw (w .below, found, ← is)
 
     recording : recordedOf (kept .numbers .references) (kept .threshold) j (bucketsOf cs ts)
-        ≡ cond (tornFor x s) (record { done = false; histogram = bucketsOf cs ts }) (record { done = true; histogram = recordIn (kept .threshold) j (bucketsOf cs ts) })
-    recording = rw torn-same (recorded-needed (kept .numbers .references) (kept .threshold) (kept .settings .buckets) (bucketsOf cs ts) (long .buckets .counts-long) (long .buckets .thresholds-long) j in-needed)
+        ≡ cond (tornFor x s)
+        (record { done = false; histogram = bucketsOf cs ts })
+        (record { done = true; histogram = recordIn (kept .threshold) j (bucketsOf cs ts) })
+    recording = rw torn-same
+        (recorded-needed (kept .numbers .references) (kept .threshold) (kept .settings .buckets) (bucketsOf cs ts)
+        (long .buckets .counts-long) (long .buckets .thresholds-long) j in-needed)
 
-    refuses : tornFor x s ≡ true → recordedOf (kept .numbers .references) (kept .threshold) j (bucketsOf cs ts) ≡ record { done = false; histogram = bucketsOf cs ts }
+    refuses : tornFor x s ≡ true
+        → recordedOf (kept .numbers .references) (kept .threshold) j (bucketsOf cs ts) ≡ record { done = false; histogram = bucketsOf cs ts }
     refuses t = recording ∙ rw t
 
-    records : tornFor x s ≡ false → recordedOf (kept .numbers .references) (kept .threshold) j (bucketsOf cs ts) ≡ record { done = true; histogram = recordIn (kept .threshold) j (bucketsOf cs ts) }
+    records : tornFor x s ≡ false
+        → recordedOf (kept .numbers .references) (kept .threshold) j (bucketsOf cs ts)
+        ≡ record { done = true; histogram = recordIn (kept .threshold) j (bucketsOf cs ts) }
     records t = recording ∙ rw t
 
     module _ (cs' ts' : List ℕ) where
       -- nothing was recorded: the bucket is torn, and all is as it was
       pub nothing-recorded : recorded false cs' ts' ≡ recordedOf (kept .numbers .references) (kept .threshold) j (bucketsOf cs ts)
-          → outcome (replyResult ((referredOf kept (answer.Refused refusal.Torn)) .answer)) (tracker ((referredOf kept (answer.Refused refusal.Torn)) .kept) ls cs' ts') ≡ referOf x s
+          → outcome (replyResult ((referredOf kept (answer.Refused refusal.Torn)) .answer))
+          (tracker ((referredOf kept (answer.Refused refusal.Torn)) .kept) ls cs' ts') ≡ referOf x s
       nothing-recorded e = cases (tornFor x s)
-          (λ t. (λ i. record { result = refused 3; left = record { kept = kept; tables = record { locations = ls; histogram = (e ∙ refuses t) i .histogram } } })
+          (λ t. (λ i. record {
+            result = refused 3;
+            left = record { kept = kept; tables = record { locations = ls; histogram = (e ∙ refuses t) i .histogram } };
+          })
           ∙ sym (refer-bucket x s (w .record-whole) (w .tables-long) (w .room) t))
           (λ t. clash refl (ap (λ r. r .done) (sym (e ∙ records t))))
 
       -- it was recorded, and the rest of the step is left
       pub recorded-left : recorded true cs' ts' ≡ recordedOf (kept .numbers .references) (kept .threshold) j (bucketsOf cs ts)
           → (bucketsOf cs' ts' ≡ recordIn (kept .threshold) j (bucketsOf cs ts))
-          × (referOf x s ≡ (let r = sampledStep (hashFor (kept .settings)) (kept .settings .limit) (profileOf (kept .settings)) x (sampleOf s) place in record { result = gives (r .reply); left = stored r s }))
+          × (referOf x s
+          ≡ (let r = sampledStep (hashFor (kept .settings)) (kept .settings .limit) (profileOf (kept .settings)) x (sampleOf s) place in
+          record { result = gives (r .reply); left = stored r s }))
       recorded-left e = cases (tornFor x s)
           (λ t. clash refl (ap (λ r. r .done) (e ∙ refuses t)))
           (λ t. (
@@ -97,52 +115,87 @@ module _ (x : ℕ) (kept : Record) (ls cs ts : List ℕ) (w : Samples x (tracker
           ))
 
   -- the location stands at the place d
-  pub again-done : (d : ℕ) → firstPlace x (liveOf s) ≡ some d → (j : ℕ) → j ≡ bucketFor (profileOf (kept .settings)) (kept .threshold) (some d) → (ls' cs' ts' : List ℕ)
+  pub again-done : (d : ℕ) → firstPlace x (liveOf s) ≡ some d
+      → (j : ℕ) → j ≡ bucketFor (profileOf (kept .settings)) (kept .threshold) (some d) → (ls' cs' ts' : List ℕ)
       → recorded true cs' ts' ≡ recordedOf (kept .numbers .references) (kept .threshold) j (bucketsOf cs ts) → ls' ≡ movedToFront d x ls
-      → outcome (replyResult ((referredOf (countedIn kept (kept .threshold) (kept .live) 1) (answer.Again d)) .answer)) (tracker ((referredOf (countedIn kept (kept .threshold) (kept .live) 1) (answer.Again d)) .kept) ls' cs' ts') ≡ referOf x s
+      → outcome (replyResult ((referredOf (countedIn kept (kept .threshold) (kept .live) 1) (answer.Again d)) .answer))
+      (tracker ((referredOf (countedIn kept (kept .threshold) (kept .live) 1) (answer.Again d)) .kept) ls' cs' ts') ≡ referOf x s
   unfolding sampledStep
   again-done d found j is ls' cs' ts' e m =
       let r = recorded-left (some d) found j is cs' ts' e in
       let b = found-below x (kept .live) ls d found in
       let l : kept .live ≡ length (toFront d x (liveOf s)) = sym (front-length d x (liveOf s) (omega (arith, counted-live, b .0)) ∙ counted-live) in
-      let o : ls' ≡ over (toFront d x (liveOf s)) ls = m ∙ moved-over x d (kept .live) ls (b .0) (omega (arith, bounds .live-high, long .locations-long)) in
-      (λ i. record { result = gives (again d); left = record { kept = countedIn kept (kept .threshold) (l i) 1; tables = record { locations = o i; histogram = (r .0 ∙ ap (λ z. recordIn (kept .threshold) z (bucketsOf cs ts)) is) i } } })
+      let o : ls' ≡ over (toFront d x (liveOf s)) ls =
+      m ∙ moved-over x d (kept .live) ls (b .0) (omega (arith, bounds .live-high, long .locations-long)) in
+      let h = r .0 ∙ ap (λ z. recordIn (kept .threshold) z (bucketsOf cs ts)) is in
+      (λ i. record {
+        result = gives (again d);
+        left = record { kept = countedIn kept (kept .threshold) (l i) 1; tables = record { locations = o i; histogram = h i } };
+      })
       ∙ sym (r .1)
 
-  module _ (none-found : firstPlace x (liveOf s) ≡ none) (ls' cs' ts' : List ℕ) (e : recorded true cs' ts' ≡ recordedOf (kept .numbers .references) (kept .threshold) (kept .settings .buckets + 1) (bucketsOf cs ts)) where
+  module _ (none-found : firstPlace x (liveOf s) ≡ none) (ls' cs' ts' : List ℕ)
+      (e : recorded true cs' ts' ≡ recordedOf (kept .numbers .references) (kept .threshold) (kept .settings .buckets + 1) (bucketsOf cs ts)) where
     -- it entered the list, with room or with a lowering
-    pub first-done : (low : Lowered) → lowering low ls' ≡ enteredOf kept x ls → outcome (replyResult ((referredOf (countedIn kept (low .threshold) (low .live) 1) answer.First) .answer)) (tracker ((referredOf (countedIn kept (low .threshold) (low .live) 1) answer.First) .kept) ls' cs' ts') ≡ referOf x s
+    pub first-done : (low : Lowered) → lowering low ls' ≡ enteredOf kept x ls
+        → outcome (replyResult ((referredOf (countedIn kept (low .threshold) (low .live) 1) answer.First) .answer))
+        (tracker ((referredOf (countedIn kept (low .threshold) (low .live) 1) answer.First) .kept) ls' cs' ts') ≡ referOf x s
     unfolding sampledStep withinLimit
     first-done low m =
         let r = recorded-left none none-found (kept .settings .buckets + 1) refl cs' ts' e in
         let l = counted-live in
+        let longer = suc (length (take (kept .live) ls)) in
         cases (ltb (kept .live) (kept .settings .limit))
         (λ t.
-        let n : ltb (kept .settings .limit) (suc (length (take (kept .live) ls))) ≡ false = le-ltb (kept .settings .limit) (suc (length (take (kept .live) ls))) (omega (arith, l, ltb-true (kept .live) (kept .settings .limit) t)) in
-        let o : movedToFront (kept .live) x ls ≡ over (x ∷ liveOf s) ls = moved-new x (kept .live) ls (omega (arith, long .locations-long, ltb-true (kept .live) (kept .settings .limit) t)) in
-        let q : kept .live + 1 ≡ suc (length (take (kept .live) ls)) = omega (arith, l) in
-        let p : lowering low ls' ≡ lowering (record { threshold = kept .threshold; live = suc (length (take (kept .live) ls)) }) (over (x ∷ liveOf s) ls) = m ∙ rw t (λ i. lowering (record { threshold = kept .threshold; live = q i }) (o i)) in
-        (λ i. record { result = gives first; left = record { kept = countedIn kept (p i .result .threshold) (p i .result .live) 1; tables = record { locations = p i .table; histogram = r .0 i } } })
+        let room = ltb-true (kept .live) (kept .settings .limit) t in
+        let n : ltb (kept .settings .limit) longer ≡ false = le-ltb (kept .settings .limit) longer (omega (arith, l, room)) in
+        let o : movedToFront (kept .live) x ls ≡ over (x ∷ liveOf s) ls = moved-new x (kept .live) ls (omega (arith, long .locations-long, room)) in
+        let q : kept .live + 1 ≡ longer = omega (arith, l) in
+        let p : lowering low ls' ≡ lowering (record { threshold = kept .threshold; live = longer }) (over (x ∷ liveOf s) ls) =
+        m ∙ rw t (λ i. lowering (record { threshold = kept .threshold; live = q i }) (o i)) in
+        (λ i. record {
+          result = gives first;
+          left = record {
+            kept = countedIn kept (p i .result .threshold) (p i .result .live) 1;
+            tables = record { locations = p i .table; histogram = r .0 i };
+          };
+        })
         ∙ sym (r .1 ∙ rw n))
         (λ t.
-        let n : ltb (kept .settings .limit) (suc (length (take (kept .live) ls))) ≡ true = lt-ltb (kept .settings .limit) (suc (length (take (kept .live) ls))) (omega (arith, l, ltb-false (kept .live) (kept .settings .limit) t)) in
+        let no-room = ltb-false (kept .live) (kept .settings .limit) t in
+        let n : ltb (kept .settings .limit) longer ≡ true = lt-ltb (kept .settings .limit) longer (omega (arith, l, no-room)) in
         let p : lowering low ls' ≡ loweringOf (hashFor (kept .settings)) (kept .threshold) (kept .live) x ls = m ∙ rw t in
-        (λ i. record { result = gives first; left = record { kept = countedIn kept (p i .result .threshold) (p i .result .live) 1; tables = record { locations = p i .table; histogram = r .0 i } } })
+        (λ i. record {
+          result = gives first;
+          left = record {
+            kept = countedIn kept (p i .result .threshold) (p i .result .live) 1;
+            tables = record { locations = p i .table; histogram = r .0 i };
+          };
+        })
         ∙ sym (r .1 ∙ rw n))
 
 -- a reference whose hash is not below the threshold
-pub skipped-done : (x : ℕ) (kept : Record) (ls cs ts : List ℕ) → tornRecord kept ≡ false → tooShort (kept .settings) (tablesOf ls cs ts) ≡ false → full (kept .numbers) ≡ false
-    → under (hashFor (kept .settings)) (kept .threshold) x ≡ false → outcome (replyResult ((referredOf (countedIn kept (kept .threshold) (kept .live) 0) answer.Skipped) .answer)) (tracker ((referredOf (countedIn kept (kept .threshold) (kept .live) 0) answer.Skipped) .kept) ls cs ts) ≡ referOf x (tracker kept ls cs ts)
+pub skipped-done : (x : ℕ) (kept : Record) (ls cs ts : List ℕ)
+    → tornRecord kept ≡ false → tooShort (kept .settings) (tablesOf ls cs ts) ≡ false → full (kept .numbers) ≡ false
+    → under (hashFor (kept .settings)) (kept .threshold) x ≡ false
+    → outcome (replyResult ((referredOf (countedIn kept (kept .threshold) (kept .live) 0) answer.Skipped) .answer))
+    (tracker ((referredOf (countedIn kept (kept .threshold) (kept .live) 0) answer.Skipped) .kept) ls cs ts) ≡ referOf x (tracker kept ls cs ts)
 skipped-done x kept ls cs ts e f g h =
     let s = tracker kept ls cs ts in
     let n : kept .live ≤ length ls = omega (arith, whole kept e .live-high, all-long (kept .settings) (s .tables) f .locations-long) in
     let a : Accepted x s = record { record-whole = e; tables-long = f; room = g; bucket-sound = rw h } in
     let z : kept .numbers .sampled + 0 ≡ kept .numbers .sampled = omega arith in
+    let q = step-skipped (hashFor (kept .settings)) (kept .settings .limit) (profileOf (kept .settings)) x (sampleOf s) h in
     (λ i. record {
       result = gives skipped;
       left = record {
-        kept = record { settings = kept .settings; threshold = kept .threshold; live = sym (length-take-le (kept .live) ls n) i; numbers = record { references = kept .numbers .references + 1; sampled = z i } };
+        kept = record {
+          settings = kept .settings;
+          threshold = kept .threshold;
+          live = sym (length-take-le (kept .live) ls n) i;
+          numbers = record { references = kept .numbers .references + 1; sampled = z i };
+        };
         tables = record { locations = sym (over-same (kept .live) ls n) i; histogram = bucketsOf cs ts };
       };
     })
-    ∙ sym (refer-accept x s a ∙ (let q = step-skipped (hashFor (kept .settings)) (kept .settings .limit) (profileOf (kept .settings)) x (sampleOf s) h in λ i. record { result = gives (q i .reply); left = stored (q i) s }))
+    ∙ sym (refer-accept x s a ∙ (λ i. record { result = gives (q i .reply); left = stored (q i) s }))

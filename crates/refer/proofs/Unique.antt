@@ -3,7 +3,6 @@ use Prim.Native.Nat.{ℕ}
 use mathlib.Core.Path.{_≡_, sym, ap, _∙_}
 use mathlib.Core.List.{List}
 use Rattle.rules.specs.declared.Referred.{Referred}
-use Rattle.rules.specs.Settings.{Tables}
 use Rattle.rules.specs.Reference.{Reply}
 use Rattle.rules.specs.Answers.{replyResult}
 use Rattle.rules.specs.Order.{Outcome, outcome}
@@ -11,9 +10,12 @@ use Rattle.rules.specs.Layout.{tracker, Tracker}
 use Rattle.rules.proofs.Tables.{each-same}
 use Rattle.rules.proofs.Answers.{answer-injective}
 
-pub refer-once : (ls cs ts ls' cs' ts' : List ℕ) (o : Outcome Reply Tracker) (r r' : Referred) → outcome (replyResult (r .answer)) (tracker (r .kept) ls cs ts) ≡ o → outcome (replyResult (r' .answer)) (tracker (r' .kept) ls' cs' ts') ≡ o → (r ≡ r') × (ls ≡ ls') × (cs ≡ cs') × (ts ≡ ts')
+pub refer-once : (ls cs ts ls' cs' ts' : List ℕ) (o : Outcome Reply Tracker) (r r' : Referred)
+    → outcome (replyResult (r .answer)) (tracker (r .kept) ls cs ts) ≡ o
+    → outcome (replyResult (r' .answer)) (tracker (r' .kept) ls' cs' ts') ≡ o
+    → (r ≡ r') × (ls ≡ ls') × (cs ≡ cs') × (ts ≡ ts')
 refer-once ls cs ts ls' cs' ts' o r r' p q =
-    let k = p ∙ sym q in
-    let a = answer-injective (r .answer) (r' .answer) (ap (λ z. z .result) k) in
-    let e = each-same (ap (λ z. z .left .tables) k) in
-    ((λ i. record { kept = k i .left .kept; answer = a i }), e .0, e .1, e .2)
+    let same = p ∙ sym q in
+    let a = answer-injective (r .answer) (r' .answer) (ap (λ z. z .result) same) in
+    let e = each-same (ap (λ z. z .left .tables) same) in
+    ((λ i. record { kept = same i .left .kept; answer = a i }), e .0, e .1, e .2)

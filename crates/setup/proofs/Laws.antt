@@ -16,7 +16,8 @@ use Rattle.rules.proofs.Calls.{setup-range, setup-short, setup-accept}
 
 -- a fresh start was made
 pub started-is : {kept j : Record} (locations : List ℕ) {counts thresholds : List ℕ} {g : Histogram} → kept ≡ j → bucketsOf counts thresholds ≡ g
-    → outcome (startedResult (started.Ready kept)) (tablesOf locations counts thresholds) ≡ record { result = gives j; left = record { locations = locations; histogram = g } }
+    → outcome (startedResult (started.Ready kept)) (tablesOf locations counts thresholds)
+    ≡ record { result = gives j; left = record { locations = locations; histogram = g } }
 started-is locations p q = λ i. record { result = gives (p i); left = record { locations = locations; histogram = q i } }
 
 -- setup's cases, for settings that are the given ones after defaults

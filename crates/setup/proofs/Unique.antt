@@ -12,8 +12,10 @@ use Rattle.rules.proofs.Tables.{each-same}
 use Rattle.rules.proofs.Answers.{started-injective}
 
 -- setup and restart, by what their definition gives for what they were handed
-pub started-once : (ls cs ts ls' cs' ts' : List ℕ) (b : Outcome Record Tables) (r r' : Started) → outcome (startedResult r) (tablesOf ls cs ts) ≡ b → outcome (startedResult r') (tablesOf ls' cs' ts') ≡ b → (r ≡ r') × (cs ≡ cs') × (ts ≡ ts')
+pub started-once : (ls cs ts ls' cs' ts' : List ℕ) (b : Outcome Record Tables) (r r' : Started)
+    → outcome (startedResult r) (tablesOf ls cs ts) ≡ b → outcome (startedResult r') (tablesOf ls' cs' ts') ≡ b
+    → (r ≡ r') × (cs ≡ cs') × (ts ≡ ts')
 started-once ls cs ts ls' cs' ts' b r r' p q =
-    let k = p ∙ sym q in
-    let e = each-same (ap (λ z. z .left) k) in
-    (started-injective r r' (ap (λ z. z .result) k), e .1, e .2)
+    let same = p ∙ sym q in
+    let e = each-same (ap (λ z. z .left) same) in
+    (started-injective r r' (ap (λ z. z .result) same), e .1, e .2)

@@ -12,5 +12,5 @@ use Rattle.rules.proofs.Answers.{written-injective}
 pub write-once : (event : Event) (buffer : List ℕ) (a b : Written) (afterA afterB : List ℕ)
     → outcome (writtenResult a) afterA ≡ writeOf event buffer → outcome (writtenResult b) afterB ≡ writeOf event buffer → (a ≡ b) × (afterA ≡ afterB)
 write-once event buffer a b afterA afterB p q =
-    let k = p ∙ sym q in
-    (written-injective a b (ap (λ z. z .result) k), ap (λ z. z .left) k)
+    let same = p ∙ sym q in
+    (written-injective a b (ap (λ z. z .result) same), ap (λ z. z .left) same)

@@ -21,9 +21,9 @@ number-plotted-requires c κs = tt
 
 returns : tie.Need-returns
 returns c =
+    let done = c .before .before .before in
     gave plotWords _
-    (rw (c .before .before .before .before .record-of .ensures, c .before .before .before .before .before .before .shape-from .ensures) at
-    (c .before .before .before .plot-point .ensures))
+    (rw (done .before .record-of .ensures, done .before .before .before .shape-from .ensures) at (done .plot-point .ensures))
     (c .number-plotted .ensures) (c .before .plot-words .ensures)
 
 pub rockgingham-plot-spec : {M : Type 1} → statement M

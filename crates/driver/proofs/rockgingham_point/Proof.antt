@@ -21,9 +21,9 @@ number-pointed-requires c κs = tt
 
 returns : tie.Need-returns
 returns c =
+    let done = c .before .before .before in
     gave pointWords _
-    (rw (c .before .before .before .before .record-of .ensures, c .before .before .before .before .before .before .shape-from .ensures) at
-    (c .before .before .before .point .ensures))
+    (rw (done .before .record-of .ensures, done .before .before .before .shape-from .ensures) at (done .point .ensures))
     (c .number-pointed .ensures) (c .before .point-words .ensures)
 
 pub rockgingham-point-spec : {M : Type 1} → statement M

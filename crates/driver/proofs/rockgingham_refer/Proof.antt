@@ -37,9 +37,8 @@ same-length-3 c = refused-by c .refer .kept .1 .1 .1 .1 .0
 
 returns : tie.Need-returns
 returns c =
-    unstepped _ _
-    (rw (refused-by c .before .before .before .before .record-of .ensures) at
-    (c .before .before .before .before .before .before .before .before .before .before .before .refer .ensures))
+    let done = c .before .before .before .before .before .before .before .before .before .before .before in
+    unstepped _ _ (rw (done .before .before .before .before .record-of .ensures) at (done .refer .ensures))
     (ap replyResult (c .before .before .reply .given .1)) (c .number-of .ensures)
 
 kept-words-requires : tie.Need-kept-words-requires
@@ -62,9 +61,8 @@ same-length-6 c = answered-by c .refer .kept .1 .1 .1 .1 .0
 
 returns-2 : tie.Need-returns-2
 returns-2 c =
-    stepped-is _ _
-    (rw (answered-by c .before .before .before .before .record-of .ensures) at
-    (c .before .before .before .before .before .before .before .before .before .before .before .before .before .refer .ensures))
+    let done = c .before .before .before .before .before .before .before .before .before .before .before .before .before in
+    stepped-is _ _ (rw (done .before .before .before .before .record-of .ensures) at (done .refer .ensures))
     (c .number-answered .ensures) (c .before .before .before .kept-words .ensures) (c .before .answer-words .ensures)
 
 pub rockgingham-refer-spec : {M : Type 1} → statement M

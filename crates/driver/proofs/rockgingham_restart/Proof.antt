@@ -27,9 +27,9 @@ same-length-2 c = called c .restart .kept .1 .1 .1 .0
 
 returns : tie.Need-returns
 returns c =
-    began _ (rw (called c .before .before .before .record-of .ensures) at
-    (c .before .before .before .before .before .before .before .restart .ensures)) (c .number-started .ensures)
-    (c .before .started-words .ensures)
+    let done = c .before .before .before .before .before .before .before in
+    began _ (rw (done .before .before .before .record-of .ensures) at (done .restart .ensures))
+    (c .number-started .ensures) (c .before .started-words .ensures)
 
 pub rockgingham-restart-spec : {M : Type 1} → statement M
 rockgingham-restart-spec =

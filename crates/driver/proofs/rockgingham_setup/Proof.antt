@@ -27,9 +27,9 @@ same-length-2 c = called c .setup .kept .1 .1 .1 .0
 
 returns : tie.Need-returns
 returns c =
-    began _ (rw (called c .before .before .before .settings-from .ensures) at
-    (c .before .before .before .before .before .before .before .setup .ensures)) (c .number-started .ensures)
-    (c .before .started-words .ensures)
+    let done = c .before .before .before .before .before .before .before in
+    began _ (rw (done .before .before .before .settings-from .ensures) at (done .setup .ensures))
+    (c .number-started .ensures) (c .before .started-words .ensures)
 
 pub rockgingham-setup-spec : {M : Type 1} → statement M
 rockgingham-setup-spec =

@@ -1,3 +1,4 @@
+-- Two halves of four bytes: the low one, and 2^32 times the high one.
 use borrow.Author.Needs.{needs}
 use native.Mathlib.Omega.{arith}
 use denote.Ref.{now}

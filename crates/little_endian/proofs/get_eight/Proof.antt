@@ -1,3 +1,4 @@
+-- Where all eight bytes are there, the number that they hold; else 0.
 use mathlib.Core.Path.{sym, _∙_}
 use borrow.Author.Tests.{leb-true}
 use Rattle.little_endian.proofs.Laws.{got-there, got-none}

@@ -1,3 +1,4 @@
+-- Where the byte is there, its value; else 0.
 use mathlib.Core.Path.{sym, _∙_}
 use borrow.Author.Tests.{leb-true}
 use Rattle.little_endian.proofs.Laws.{got-there, got-none}

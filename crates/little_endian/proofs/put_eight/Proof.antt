@@ -1,3 +1,4 @@
+-- Where all eight bytes are there they are filled; else nothing is written.
 use mathlib.Core.Path.{sym, _∙_}
 use borrow.Author.Tests.{leb-true}
 use Rattle.little_endian.proofs.Laws.{put-there, put-none}

@@ -1,3 +1,4 @@
+-- Where the byte is there it is filled; else nothing is written.
 use mathlib.Core.Path.{sym, _∙_}
 use borrow.Author.Tests.{leb-true}
 use Rattle.little_endian.proofs.Laws.{put-there, put-none}

@@ -1,3 +1,4 @@
+-- Two bytes: the low one, and 256 times the high one.
 use borrow.Author.Needs.{needs}
 use native.Mathlib.Omega.{arith}
 use denote.Ref.{now}

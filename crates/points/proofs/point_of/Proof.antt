@@ -1,3 +1,4 @@
+-- Both branches are the definition's, by the test on the total.
 use native.Mathlib.Omega.{arith}
 use borrow.Author.Tests.{eq-eqb, ne-eqb}
 use borrow.Author.Needs.{needs}

@@ -1,3 +1,4 @@
+-- The width is at least 1, as the definition takes it; the test on the quotient tells its two branches apart.
 use borrow.Author.Tests.{le-leb, lt-leb}
 use borrow.Author.Needs.{needs}
 use Rattle.profile.proofs.bucket_of.Statement.{statement}

@@ -1,3 +1,5 @@
+-- The first byte is the kind, and each kind's reader promises what the definition gives for it; with no byte, and for any other kind, the
+-- definition refuses.
 use borrow.Author.Needs.{needs}
 use native.Mathlib.Nat.{pos-of-ne-zero}
 use mathlib.Core.Path.{refl, sym, _∙_}

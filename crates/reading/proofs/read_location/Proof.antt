@@ -1,3 +1,4 @@
+-- Too few bytes are refused; with all nine there, the eight behind the kind are the location.
 use borrow.Author.Needs.{needs}
 use mathlib.Core.Path.{ap, _∙_}
 use native.Mathlib.Omega.{arith}

@@ -1,3 +1,4 @@
+-- Too few bytes are refused; with all eighteen there, each setting is the number at its place.
 use borrow.Author.Needs.{needs}
 use mathlib.Core.Path.{_∙_}
 use native.Mathlib.Omega.{arith}

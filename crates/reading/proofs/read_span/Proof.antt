@@ -1,3 +1,4 @@
+-- Too few bytes are refused; with all thirteen there, the offset and the length are the numbers at their places.
 use borrow.Author.Needs.{needs}
 use mathlib.Core.Path.{_∙_}
 use native.Mathlib.Omega.{arith}
@@ -22,8 +23,8 @@ returns-2 c =
     let d = c .before .before in
     let bytes = now (d .before .before .args .bytes) in
     let offset = c .before .get-eight .ensures ∙ got-there 8 1 bytes (omega (arith, d .if1 .left)) in
-    let length = c .get-four .ensures ∙ got-there 4 9 bytes (omega (arith, d .if1 .left)) in
-    whole-fits 13 bytes (λ i. Span (offset i) (length i)) (d .if1 .left)
+    let count = c .get-four .ensures ∙ got-there 4 9 bytes (omega (arith, d .if1 .left)) in
+    whole-fits 13 bytes (λ i. Span (offset i) (count i)) (d .if1 .left)
 
 pub read-span-spec : {M : Type 1} → statement M
 read-span-spec = tie.close (tie.spec returns get-eight-requires get-four-requires returns-2)

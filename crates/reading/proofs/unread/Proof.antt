@@ -1,3 +1,4 @@
+-- What was read says how many bytes to leave out: those of the event, or none where nothing could be read.
 use borrow.Author.Needs.{needs}
 use mathlib.Core.Path.{sym, ap, _∙_}
 use native.Mathlib.Omega.{arith}

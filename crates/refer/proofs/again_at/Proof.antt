@@ -78,7 +78,8 @@ returns c =
     let start = at-bucket bucket in
     rw (c .counted-in .ensures) (again-done _ _ _ _ _ (start .pre .0) _ (start .pre .1)
     _ (bucket-is bucket)
-    _ _ _ (rw (c .before .before .before .before .before .if1 .taken) at (recording .record-in .ensures)) (c .before .before .before .to-front .ensures))
+    _ _ _ (rw (c .before .before .before .before .before .if1 .taken) at (recording .record-in .ensures))
+    (c .before .before .before .to-front .ensures))
 
 same-length-4 : tie.Need-same-length-4
 same-length-4 c = search needs

@@ -1,3 +1,4 @@
+-- With room the location goes to the front and the list is one longer; without, the rest is `lower`'s.
 use Prim.Native.Nat.{_+_}
 use mathlib.Core.Path.{ap}
 use borrow.Author.Tests.{lt-ltb, le-ltb}
@@ -16,7 +17,11 @@ same-length : tie.Need-same-length
 same-length c = search needs
 
 returns : tie.Need-returns
-returns c = rw (lt-ltb _ _ (c .before .before .before .before .if1 .taken)) (ap (λ z. lowering (record { threshold = c .before .before .before .before .before .before .before .args .kept .threshold; live = c .before .before .before .before .before .before .before .args .kept .live + 1 }) z) (c .before .before .to-front .ensures))
+returns c =
+    let room = c .before .before .before .before in
+    let kept = room .before .before .before .args .kept in
+    rw (lt-ltb _ _ (room .if1 .taken))
+    (ap (λ z. lowering (record { threshold = kept .threshold; live = kept .live + 1 }) z) (c .before .before .to-front .ensures))
 
 lower-requires : tie.Need-lower-requires
 lower-requires c κs = search needs

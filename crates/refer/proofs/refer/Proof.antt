@@ -1,13 +1,35 @@
+-- Each test that is passed shows one of the definition's conditions not to hold; the first that stops the call is the refusal. With all
+-- passed, a hash that is not below the threshold is counted and no more, and else the rest is `sampled`'s.
 use native.Mathlib.Omega.{arith}
-use mathlib.Core.Path.{refl, sym, _∙_}
+use mathlib.Core.Bool.{false}
+use mathlib.Core.Path.{_≡_, refl, sym, _∙_}
 use borrow.Author.Tests.{eq-eqb, ne-eqb, lt-ltb, le-ltb}
+use Rattle.rules.specs.Layout.{tablesOf}
+use Rattle.rules.specs.Conditions.{tornRecord, tooShort}
 use Rattle.rules.proofs.Bounds.{whole}
 use Rattle.rules.proofs.Calls.{refer-torn, refer-short, refer-full}
 use Rattle.refer.proofs.OneReference.{skipped-done}
 use borrow.Author.Needs.{needs}
 use Rattle.refer.proofs.refer.Statement.{statement}
 use Rattle.refer.proofs.refer.Tie as tie
-use Rattle.rules.specs.Answers.{refused}
+
+-- from where a test is passed, where the one before it was
+abbrev start : tie.Else1 → tie.Start
+start d = d .before .before .before .before .before
+
+abbrev first-passed : tie.Else2 → tie.Else1
+first-passed d = d .before .before .before .before .before
+
+abbrev second-passed : tie.Else3 → tie.Else2
+second-passed d = d .before .before
+
+-- what the tests have shown
+not-torn : (d : tie.Else1) → tornRecord (start d .args .kept) ≡ false
+not-torn d = sym (d .before .torn .ensures) ∙ d .if1 .left
+
+not-short : (d : tie.Else2) → let a = start (first-passed d) .args in
+    tooShort (a .kept .settings) (tablesOf (a .locations .now) (a .counts .now) (a .thresholds .now)) ≡ false
+not-short d = sym (d .before .too-short .ensures) ∙ d .if2 .left
 
 torn-requires : tie.Need-torn-requires
 torn-requires c κs = tt
@@ -34,7 +56,10 @@ same-length-3 : tie.Need-same-length-3
 same-length-3 c = refl
 
 returns-2 : tie.Need-returns-2
-returns-2 c = rw (c .refused2 .ensures) (sym (refer-short _ _ (sym (c .before .before .before .before .before .before .before .torn .ensures) ∙ c .before .before .before .before .before .before .if1 .left) (sym (c .before .before .too-short .ensures) ∙ c .before .if2 .taken)))
+returns-2 c =
+    let one = c .before .before .before .before .before .before in
+    let short = sym (c .before .before .too-short .ensures) ∙ c .before .if2 .taken in
+    rw (c .refused2 .ensures) (sym (refer-short _ _ (not-torn one) short))
 
 refused-requires-3 : tie.Need-refused-requires-3
 refused-requires-3 c κs = tt
@@ -49,13 +74,17 @@ same-length-6 : tie.Need-same-length-6
 same-length-6 c = refl
 
 returns-3 : tie.Need-returns-3
-returns-3 c = rw (c .refused3 .ensures) (sym (refer-full _ _ (sym (c .before .before .before .before .before .before .before .before .before .torn .ensures) ∙ c .before .before .before .before .before .before .before .before .if1 .left) (sym (c .before .before .before .before .too-short .ensures) ∙ c .before .before .before .if2 .left) (eq-eqb _ _ (c .before .if3 .taken))))
+returns-3 c = let two = c .before .before .before in
+    rw (c .refused3 .ensures) (sym (refer-full _ _ (not-torn (first-passed two)) (not-short two) (eq-eqb _ _ (c .before .if3 .taken))))
 
 hash-of-requires : tie.Need-hash-of-requires
 hash-of-requires c κs = tt
 
 counted-in-requires : tie.Need-counted-in-requires
-counted-in-requires c κs = let b = whole _ (sym (c .before .before .before .before .before .before .before .before .before .before .before .torn .ensures) ∙ c .before .before .before .before .before .before .before .before .before .before .if1 .left) in (omega (arith, b .references-high, c .before .before .before .if3 .left), b .sampled-high, omega arith)
+counted-in-requires c κs =
+    let three = c .before .before .before in
+    let b = whole _ (not-torn (first-passed (second-passed three))) in
+    (omega (arith, b .references-high, three .if3 .left), b .sampled-high, omega arith)
 
 same-length-7 : tie.Need-same-length-7
 same-length-7 c = refl
@@ -67,10 +96,25 @@ same-length-9 : tie.Need-same-length-9
 same-length-9 c = refl
 
 returns-4 : tie.Need-returns-4
-returns-4 c = rw (c .counted-in .ensures) (skipped-done _ _ _ _ _ (sym (c .before .before .before .before .before .before .before .before .before .before .before .before .torn .ensures) ∙ c .before .before .before .before .before .before .before .before .before .before .before .if1 .left) (sym (c .before .before .before .before .before .before .before .too-short .ensures) ∙ c .before .before .before .before .before .before .if2 .left) (ne-eqb _ _ (c .before .before .before .before .if3 .left)) (le-ltb _ _ (rw (c .before .before .before .hash-of .ensures) at (c .before .if4 .taken))))
+returns-4 c =
+    let hashed = c .before .before .before in
+    let three = hashed .before in
+    let two = second-passed three in
+    rw (c .counted-in .ensures) (skipped-done _ _ _ _ _ (not-torn (first-passed two)) (not-short two) (ne-eqb _ _ (three .if3 .left))
+    (le-ltb _ _ (rw (hashed .hash-of .ensures) at (c .before .if4 .taken))))
 
 sampled-requires : tie.Need-sampled-requires
-sampled-requires c κs = record { record-whole = (sym (c .before .before .before .before .before .before .before .before .before .before .before .before .before .before .torn .ensures) ∙ c .before .before .before .before .before .before .before .before .before .before .before .before .before .if1 .left); tables-long = (sym (c .before .before .before .before .before .before .before .before .before .too-short .ensures) ∙ c .before .before .before .before .before .before .before .before .if2 .left); room = ne-eqb _ _ (c .before .before .before .before .before .before .if3 .left); below = lt-ltb _ _ (rw (c .before .before .before .before .before .hash-of .ensures) at (c .before .before .before .if4 .left)) }
+sampled-requires c κs =
+    let four = c .before .before .before in
+    let hashed = four .before .before in
+    let three = hashed .before in
+    let two = second-passed three in
+    record {
+      record-whole = not-torn (first-passed two);
+      tables-long = not-short two;
+      room = ne-eqb _ _ (three .if3 .left);
+      below = lt-ltb _ _ (rw (hashed .hash-of .ensures) at (four .if4 .left));
+    }
 
 same-length-10 : tie.Need-same-length-10
 same-length-10 c = search needs

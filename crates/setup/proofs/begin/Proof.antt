@@ -1,3 +1,4 @@
+-- Settings in range and buckets that are long enough let `clear` write every entry that is needed; what it leaves is the fresh histogram.
 use Rattle.rules.specs.Layout.{bucketsOf}
 use native.Mathlib.Omega.{arith}
 use mathlib.Core.Path.{refl}
@@ -13,9 +14,11 @@ cast-clear : tie.Need-cast-clear
 cast-clear c = omega (arith, in-range _ (c .before .before .before .before .before .pre .0) .start-high)
 
 clear-requires : tie.Need-clear-requires
-clear-requires c κs = let a = c .before .before .before .before .before .args in
-    let l = buckets-long (a .s) (bucketsOf (a .counts .now) (a .thresholds .now)) (c .before .before .before .before .before .pre .1) in
-    (l .counts-long, l .thresholds-long)
+clear-requires c κs =
+    let start = c .before .before .before .before .before in
+    let a = start .args in
+    let long = buckets-long (a .s) (bucketsOf (a .counts .now) (a .thresholds .now)) (start .pre .1) in
+    (long .counts-long, long .thresholds-long)
 
 same-length : tie.Need-same-length
 same-length c = search needs
@@ -24,7 +27,8 @@ same-length-2 : tie.Need-same-length-2
 same-length-2 c = search needs
 
 returns : tie.Need-returns
-returns c = (refl, λ i. record { counts = c .before .before .before .before .clear .ensures .0 i; thresholds = c .before .before .before .before .clear .ensures .1 i })
+returns c = let done = c .before .before .before .before in
+    (refl, λ i. record { counts = done .clear .ensures .0 i; thresholds = done .clear .ensures .1 i })
 
 pub begin-spec : {M : Type 1} → statement M
 begin-spec =

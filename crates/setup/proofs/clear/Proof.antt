@@ -1,3 +1,4 @@
+-- The loop keeps: the first i entries of both tables are filled, and the others are as they were.
 use borrow.Author.Needs.{needs}
 use Prim.Native.Nat.{_≤_, _-_}
 use mathlib.Core.Path.{_≡_}
@@ -5,10 +6,10 @@ use native.Mathlib.Omega.{arith}
 use Rattle.rules.proofs.Tables.{Filled, fill-none, fill-more}
 use Rattle.setup.proofs.clear.Statement.{statement}
 use Rattle.setup.proofs.clear.Tie as tie
-use Rattle.rules.specs.Settings.{Tables}
 
 abbrev Inv-loop : tie.InvT-loop
-Inv-loop counts₀ thresholds₀ n start i₀ counts thresholds i = (i ≤ n) × Filled 0 counts₀ counts i × Filled start thresholds₀ thresholds i
+Inv-loop counts₀ thresholds₀ n start i₀ counts thresholds i =
+    (i ≤ n) × Filled 0 counts₀ counts i × Filled start thresholds₀ thresholds i
 
 abbrev μ-loop : tie.MeasureT-loop
 μ-loop counts₀ thresholds₀ n start i₀ counts thresholds i = n - i
@@ -35,8 +36,8 @@ loop-less : tie.Need-loop-less Inv-loop μ-loop
 loop-less c = search needs
 
 loop-again : tie.Need-loop-again Inv-loop μ-loop
-loop-again c = let b = c .before in
-    (omega arith, fill-more _ _ _ _ (omega arith) (b .loop .inv .1), fill-more _ _ _ _ (omega arith) (b .loop .inv .2))
+loop-again c = let turn = c .before in
+    (omega arith, fill-more _ _ _ _ (omega arith) (turn .loop .inv .1), fill-more _ _ _ _ (omega arith) (turn .loop .inv .2))
 
 same-length : tie.Need-same-length Inv-loop μ-loop
 same-length c = search needs
@@ -45,9 +46,10 @@ same-length-2 : tie.Need-same-length-2 Inv-loop μ-loop
 same-length-2 c = search needs
 
 returns : tie.Need-returns Inv-loop μ-loop
-returns c = let b = c .before in
-    let e : b .loop .i ≡ b .before .args .n = omega arith in
-    (rw e at (b .loop .inv .1 .is), rw e at (b .loop .inv .2 .is))
+returns c =
+    let last = c .before in
+    let all : last .loop .i ≡ last .before .args .n = omega arith in
+    (rw all at (last .loop .inv .1 .is), rw all at (last .loop .inv .2 .is))
 
 pub clear-spec : {M : Type 1} → statement M
 clear-spec =

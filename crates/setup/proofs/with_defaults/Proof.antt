@@ -1,3 +1,4 @@
+-- Each of the four settings is what `or_default` promises of it.
 use Rattle.rules.specs.Settings.{withDefaults}
 use borrow.Author.Needs.{needs}
 use Rattle.setup.proofs.with_defaults.Statement.{statement}
@@ -17,7 +18,13 @@ or-default-requires-4 c κs = search needs
 
 returns : tie.Need-returns
 unfolding withDefaults
-returns c = rw (c .before .before .before .or-default .ensures, c .before .before .or-default2 .ensures, c .before .or-default3 .ensures, c .or-default4 .ensures)
+returns c =
+    rw (
+      c .before .before .before .or-default .ensures,
+      c .before .before .or-default2 .ensures,
+      c .before .or-default3 .ensures,
+      c .or-default4 .ensures,
+    )
 
 pub with-defaults-spec : {M : Type 1} → statement M
 with-defaults-spec =

@@ -21,16 +21,10 @@ enum-told : tie.Need-enum-told
 enum-told c = search needs
 
 put-points-requires : tie.Need-put-points-requires
-put-points-requires c κs = (
-  search needs,
-  omega (
-    arith,
-    point-needed (start (c .before .before .before) .args .kept) 0 _
-        (sym (c .before .before .before .point-at .ensures) ∙ ap pointResult (c .before .enum-told .given .1)),
-    start (c .before .before .before) .pre,
-  ),
-  search needs,
-)
+put-points-requires c κs =
+    let asked = c .before .before .before in
+    let answered = sym (asked .point-at .ensures) ∙ ap pointResult (c .before .enum-told .given .1) in
+    (search needs, omega (arith, point-needed (start asked .args .kept) 0 _ answered, start asked .pre), search needs)
 
 slice-aggregate-put : tie.Need-slice-aggregate-put
 slice-aggregate-put c = refl
@@ -52,17 +46,18 @@ same-length c = c .before .before .put .kept .0 ∙ points-put c .put-points .ke
 
 returns : tie.Need-returns
 returns c =
-    rw (sym (points-put c .before .before .before .before .point-at .ensures) ∙ ap pointResult (points-put c .before .before .enum-told .given .1))
-    (adds-then (points-put c .put-points .ensures .0) (c .before .before .put .ensures))
+    let done = points-put c in
+    let told = done .before .before in
+    rw (sym (told .before .before .point-at .ensures) ∙ ap pointResult (told .enum-told .given .1))
+    (adds-then (done .put-points .ensures .0) (c .before .before .put .ensures))
 
 same-length-2 : tie.Need-same-length-2
 same-length-2 c = c .before .before .put2 .kept .0
 
 returns-2 : tie.Need-returns-2
 returns-2 c =
-    rw (sym (c .before .before .before .before .before .before .before .point-at .ensures)
-    ∙ ap pointResult (c .before .before .before .before .before .enum-told2 .given .1))
-    (c .before .before .put2 .ensures)
+    let told = c .before .before .before .before .before in
+    rw (sym (told .before .before .point-at .ensures) ∙ ap pointResult (told .enum-told2 .given .1)) (c .before .before .put2 .ensures)
 
 pub put-body-spec : {M : Type 1} → statement M
 put-body-spec =

@@ -23,9 +23,11 @@ put-first-line-requires c κs =
 
 put-body-requires : tie.Need-put-body-requires
 put-body-requires c κs =
-    let args = c .before .before .before .before .before .before .before .before .before .args in
-    let enough = room (args .out .now) (args .counts .now) (c .before .before .before .before .before .if1 .left) in
-    (omega (arith, c .before .before .before .put-first-line .ensures .1), enough .1, omega (arith, enough))
+    let done = c .before .before .before in
+    let passed = done .before .before in
+    let args = passed .before .before .before .before .args in
+    let enough = room (args .out .now) (args .counts .now) (passed .if1 .left) in
+    (omega (arith, done .put-first-line .ensures .1), enough .1, omega (arith, enough))
 
 same-length : tie.Need-same-length
 same-length c = c .before .before .put-body .kept .0 ∙ first-put c .put-first-line .kept .0

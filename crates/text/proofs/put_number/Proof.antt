@@ -26,8 +26,9 @@ same-length c = c .before .before .put .kept .0
 
 returns : tie.Need-returns
 returns c =
-    let made = c .before .before .before .before .before .decimal in
-    let args = c .before .before .before .before .before .before .before .before .args in
+    let spelled = c .before .before .before .before .before in
+    let made = spelled .decimal in
+    let args = spelled .before .before .before .args in
     let told = decimal-spelled (made .result) (args .n) (search needs) (made .ensures .1 .0) in
     (rw (← (made .ensures .1 .1 ∙ told .are)) (c .before .before .put .ensures), omega (arith, told .few, made .ensures .0 .1))
 

@@ -23,9 +23,8 @@ same-length c = c .before .before .put-point-line .kept .0
 
 returns : tie.Need-returns
 returns c =
-    let answered =
-    sym (c .before .before .before .before .before .before .before .point-at .ensures)
-    ∙ ap pointResult (c .before .before .before .before .before .p .given .1) in
+    let told = c .before .before .before .before .before in
+    let answered = sym (told .before .before .point-at .ensures) ∙ ap pointResult (told .p .given .1) in
     (rw answered (c .before .before .put-point-line .ensures .0), search needs)
 
 returns-2 : tie.Need-returns-2

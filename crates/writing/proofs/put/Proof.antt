@@ -1,3 +1,4 @@
+-- Each event is put by its own function: the room asked for is that event's, and what it leaves are that event's bytes.
 use borrow.Author.Needs.{needs}
 use Rattle.writing.proofs.put.Statement.{statement}
 use Rattle.writing.proofs.put.Tie as tie

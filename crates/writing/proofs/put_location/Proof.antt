@@ -1,6 +1,7 @@
+-- The kind, and the location behind it.
 use borrow.Author.Needs.{needs}
 use mathlib.Core.Path.{_∙_}
-use mathlib.Core.List.{[], _∷_, _++_}
+use mathlib.Core.List.{[], _∷_}
 use native.Mathlib.Omega.{arith}
 use denote.Ref.{now}
 use Rattle.little_endian.proofs.Laws.{put-there, put-behind}

@@ -1,3 +1,4 @@
+-- The kind, and each setting behind what was put so far.
 use borrow.Author.Needs.{needs}
 use mathlib.Core.Path.{_∙_}
 use Prim.Native.Nat.{ℕ}

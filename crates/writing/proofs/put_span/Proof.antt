@@ -1,6 +1,7 @@
+-- The kind, the offset behind it, and the length behind both.
 use borrow.Author.Needs.{needs}
 use mathlib.Core.Path.{_∙_}
-use mathlib.Core.List.{[], _∷_, _++_}
+use mathlib.Core.List.{[], _∷_}
 use native.Mathlib.Omega.{arith}
 use denote.Ref.{now}
 use Rattle.rules.specs.Events.{bytesOf}

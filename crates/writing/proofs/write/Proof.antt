@@ -1,3 +1,4 @@
+-- The event's size decides: a buffer that is too short is refused, and else `put` fills it.
 use borrow.Author.Needs.{needs}
 use Prim.Native.Nat.{_<_}
 use mathlib.Core.Path.{sym}
