@@ -12,10 +12,10 @@ returns : tie.Need-returns
 returns c = rw (eq-eqb _ _ (c .if1 .taken))
 
 cast-size-of : tie.Need-cast-size-of
-cast-size-of c = omega (arith, c .before .before .before .pre .1)
+cast-size-of c = let pre = c .before .before .before .pre in omega (arith, pre .0, pre .1)
 
 cast-size-of-2 : tie.Need-cast-size-of-2
-cast-size-of-2 c = omega (arith, c .before .before .before .pre .0)
+cast-size-of-2 c = let pre = c .before .before .before .pre in omega (arith, pre .0, pre .1)
 
 sub-t9 : tie.Need-sub-t9
 sub-t9 c = search needs

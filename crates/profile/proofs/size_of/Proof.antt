@@ -1,14 +1,16 @@
-use native.Mathlib.Omega.{arith}
+use Prim.Native.Nat.{ℕ, _*_, _^_, _≤_, _<_}
 use native.Mathlib.Nat.{mul-le-mul-left}
-use Prim.Native.Nat.{_≤_}
+use native.Mathlib.Omega.{arith}
 use borrow.Author.Needs.{needs}
 use Rattle.profile.proofs.size_of.Statement.{statement}
 use Rattle.profile.proofs.size_of.Tie as tie
 
+-- two numbers of 32 bits
+product-fits : (a b : ℕ) → a < 2 ^ 32 → b < 2 ^ 32 → a * b < 2 ^ 64
+product-fits a b h k = let most : b ≤ 2 ^ 32 = omega arith in omega (arith, mul-le-mul-left a most)
+
 mul-result : tie.Need-mul-result
-mul-result c =
-    let width : c .args .width ≤ 4294967295 = omega arith in
-    record { fits = omega (arith, mul-le-mul-left (c .args .point) width) }
+mul-result c = record { fits = product-fits _ _ (search needs) (search needs) }
 
 returns : tie.Need-returns
 returns c = search needs
