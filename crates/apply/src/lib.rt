@@ -20,9 +20,13 @@ ghost use Rattle.apply.specs.EventCall.{callOf, startedOn, takenFrom};
 
 // The call that an event stands for: at most one reference, or a fresh start.
 enum Call {
+    // No call: a span of length 0.
     Nothing,
+    // A reference to this location.
     Reference(u64),
+    // A fresh start with the record's settings.
     Restart,
+    // A fresh start with these settings.
     Setup(Settings),
 }
 

@@ -31,7 +31,9 @@ struct Adding {
 
 // What some buckets add up to, or that one of them is torn or the sum of their raw counts is too large.
 enum Added {
+    // Their sums.
     Whole(Adding),
+    // One is torn, or the sum of their raw counts is too large.
     Torn,
 }
 

@@ -25,16 +25,23 @@ ghost use Rattle.curve.specs.Program.{Fitting, Stands, Telling, Ready, A
 
 // The result of one read.
 enum Came {
+    // So many bytes were read.
     Bytes(usize),
+    // The input is at its end.
     End,
+    // The read was interrupted.
     Again,
+    // The read failed.
     Failed,
 }
 
 // The result of the program: a text at the front of the buffer, a failed read, or an input too long to count.
 enum Done {
+    // The text to print, of this length.
     Text(usize),
+    // A read failed.
     Failed,
+    // The input was too long to count.
     Unending,
 }
 
@@ -49,7 +56,9 @@ struct Pause {
 
 // What follows a read: another read, or the result of the program.
 enum Next {
+    // Another read.
     On(Pause),
+    // Nothing more is read.
     Over(Done),
 }
 

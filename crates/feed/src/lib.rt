@@ -10,8 +10,11 @@ ghost use Rattle.feed.specs.Feed.{unreadable, feedOf, endingResult, afte
 
 // Why no more bytes were taken: they end after a whole event, they end inside one, or an event was refused.
 pub enum Ending {
+    // They end after a whole event.
     Whole,
+    // They end inside an event, which was not taken.
     Inside,
+    // An event could not be read, or the call that it stands for was refused.
     Refused(Refusal),
 }
 
