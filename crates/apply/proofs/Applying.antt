@@ -10,6 +10,7 @@ use Rattle.rules.specs.declared.Event.{Event}
 use Rattle.rules.specs.declared.Event.the-variants as event
 use Rattle.rules.specs.declared.Started.{Started}
 use Rattle.rules.specs.declared.Started.the-variants as started
+use Rattle.rules.specs.declared.Applied.{Applied}
 use Rattle.rules.specs.declared.Referred.{Referred}
 use Rattle.rules.specs.declared.Answer.{Answer}
 use Rattle.rules.specs.declared.Answer.the-variants as answer
@@ -22,6 +23,10 @@ use Rattle.rules.proofs.Tests.{cases}
 use Rattle.apply.specs.declared.Call.{Call}
 use Rattle.apply.specs.declared.Call.the-variants as call
 use Rattle.apply.specs.EventCall.{callOf, startedOn, takenOf, takenFrom}
+
+-- what an applied event answers and leaves
+abbrev outcomeOf : Applied → (ls cs ts : List ℕ) → Outcome (Unit {0}) Tracker
+outcomeOf a ls cs ts = outcome (takenResult (a .answer)) (tracker (a .kept) ls cs ts)
 
 -- the rules' outcome of a call
 abbrev doneOf : Call → Tracker → Outcome (Unit {0}) Tracker
@@ -41,7 +46,7 @@ done-is (event.Setup b) s = refl
 -- a list of one reference
 one-reference : (x : ℕ) (s : Tracker) (r : Referred) (ls cs ts : List ℕ)
     → outcome (replyResult (r .answer)) (tracker (r .kept) ls cs ts) ≡ referOf x s
-    → outcome (takenResult ((takenFrom r) .answer)) (tracker ((takenFrom r) .kept) ls cs ts) ≡ referAll (x ∷ []) s
+    → outcomeOf (takenFrom r) ls cs ts ≡ referAll (x ∷ []) s
 unfolding referAll
 one-reference x s r ls cs ts e = taken-is (r .answer) ∙ ap (λ o. goingOn (o .result) (o .left) (record { result = gives tt; left = o .left })) e
   where
@@ -53,13 +58,13 @@ one-reference x s r ls cs ts e = taken-is (r .answer) ∙ ap (λ o. goingOn (o .
     taken-is answer.First = refl
     taken-is (answer.Refused w) = refl
 
--- a start, over a tracker that had the record kept
+-- a start, over a tracker that had the record `kept`
 one-start : (kept : Record) (b : Outcome Record Tables) (r : Started) (ls cs ts : List ℕ) → outcome (startedResult r) (tablesOf ls cs ts) ≡ b
-    → outcome (takenResult ((startedOn kept r) .answer)) (tracker ((startedOn kept r) .kept) ls cs ts) ≡ startedOver kept (b .result) (b .left)
+    → outcomeOf (startedOn kept r) ls cs ts ≡ startedOver kept (b .result) (b .left)
 one-start kept b r ls cs ts e = start-is r ∙ ap (λ z. startedOver kept (z .result) (z .left)) e
   where
     start-is : (r : Started)
-        → outcome (takenResult ((startedOn kept r) .answer)) (tracker ((startedOn kept r) .kept) ls cs ts)
+        → outcomeOf (startedOn kept r) ls cs ts
         ≡ startedOver kept (outcome (startedResult r) (tablesOf ls cs ts) .result) (outcome (startedResult r) (tablesOf ls cs ts) .left)
     start-is (started.Ready j) = refl
     start-is (started.Refused w) = refl
@@ -74,14 +79,14 @@ module _ (e : Event) (s : Tracker) (a : Call) (is : a ≡ callOf e) where
 
   module _ (ls cs ts : List ℕ) where
     pub apply-reference : (x : ℕ) (r : Referred) → a ≡ call.Reference x → outcome (replyResult (r .answer)) (tracker (r .kept) ls cs ts) ≡ referOf x s
-        → outcome (takenResult ((takenFrom r) .answer)) (tracker ((takenFrom r) .kept) ls cs ts) ≡ applyOf e s
+        → outcomeOf (takenFrom r) ls cs ts ≡ applyOf e s
     apply-reference x r p q = one-reference x s r ls cs ts q ∙ ap (λ z. doneOf z s) (sym p) ∙ call-is
 
     pub apply-restart : (r : Started) → a ≡ call.Restart → outcome (startedResult r) (tablesOf ls cs ts) ≡ restartOf (s .kept) (s .tables)
-        → outcome (takenResult ((startedOn (s .kept) r) .answer)) (tracker ((startedOn (s .kept) r) .kept) ls cs ts) ≡ applyOf e s
+        → outcomeOf (startedOn (s .kept) r) ls cs ts ≡ applyOf e s
     apply-restart r p q = one-start (s .kept) (restartOf (s .kept) (s .tables)) r ls cs ts q ∙ ap (λ z. doneOf z s) (sym p) ∙ call-is
 
     pub apply-setup : (given : Settings) (r : Started) → a ≡ call.Setup given
         → outcome (startedResult r) (tablesOf ls cs ts) ≡ setupOf given (s .tables)
-        → outcome (takenResult ((startedOn (s .kept) r) .answer)) (tracker ((startedOn (s .kept) r) .kept) ls cs ts) ≡ applyOf e s
+        → outcomeOf (startedOn (s .kept) r) ls cs ts ≡ applyOf e s
     apply-setup given r p q = one-start (s .kept) (setupOf given (s .tables)) r ls cs ts q ∙ ap (λ z. doneOf z s) (sym p) ∙ call-is

@@ -10,13 +10,11 @@ use lib.ListN.{length, take}
 use lib.Seq.{length-take-le}
 use borrow.Author.Tests.{lt-ltb, le-ltb, eqb-false, ltb-true, ltb-false}
 use Rattle.rules.specs.declared.Record.{Record}
-use Rattle.rules.specs.declared.Refusal.the-variants as refusal
-use Rattle.rules.specs.declared.Answer.the-variants as answer
 use Rattle.rules.specs.Lists.{over}
-use Rattle.rules.specs.Settings.{needed, mostReferences}
-use Rattle.rules.specs.Reference.{firstPlace, toFront, under, recordIn, bucketFor, withinLimit, sampledStep, again, first, skipped}
-use Rattle.rules.specs.Answers.{refused, gives, replyResult}
-use Rattle.rules.specs.Order.{outcome}
+use Rattle.rules.specs.Settings.{Histogram, needed, mostReferences}
+use Rattle.rules.specs.Reference.{firstPlace, toFront, under, recordIn, bucketFor, withinLimit, sampledStep, Reply, again, first, skipped}
+use Rattle.rules.specs.Answers.{refused, gives}
+use Rattle.rules.specs.Order.{Outcome, outcome}
 use Rattle.rules.specs.Layout.{Tracker, bucketsOf, tablesOf, tracker, liveOf, sampleOf, hashFor, profileOf, stored}
 use Rattle.rules.specs.Conditions.{tooShort, tornRecord, tornAt, tornFor, full}
 use Rattle.rules.specs.Calls.{referOf}
@@ -31,9 +29,9 @@ use Rattle.rules.proofs.Calls.{Accepted, refer-bucket, refer-accept}
 use Rattle.buckets.specs.Buckets.{recorded, recordedOf}
 use Rattle.buckets.proofs.Laws.{recorded-needed}
 use Rattle.live.specs.declared.Lowered.{Lowered}
-use Rattle.live.specs.Live.{movedToFront, lowering, loweringOf}
+use Rattle.live.specs.Live.{Lowering, movedToFront, lowering, loweringOf}
 use Rattle.live.proofs.Laws.{found-below, moved-over, moved-new}
-use Rattle.refer.specs.Refer.{referredOf, countedIn, enteredOf, Samples}
+use Rattle.refer.specs.Refer.{countedIn, enteredOf, Samples}
 
 module _ (x : ℕ) (kept : Record) (ls cs ts : List ℕ) (w : Samples x (tracker kept ls cs ts)) where
   abbrev s : Tracker
@@ -88,8 +86,7 @@ module _ (x : ℕ) (kept : Record) (ls cs ts : List ℕ) (w : Samples x (tracker
     module _ (cs' ts' : List ℕ) where
       -- nothing was recorded: the bucket is torn, and all is as it was
       pub nothing-recorded : recorded false cs' ts' ≡ recordedOf (kept .numbers .references) (kept .threshold) j (bucketsOf cs ts)
-          → outcome (replyResult ((referredOf kept (answer.Refused refusal.Torn)) .answer))
-          (tracker ((referredOf kept (answer.Refused refusal.Torn)) .kept) ls cs' ts') ≡ referOf x s
+          → outcome (refused 3) (tracker kept ls cs' ts') ≡ referOf x s
       nothing-recorded e = cases (tornFor x s)
           (λ t. (λ i. record {
             result = refused 3;
@@ -118,8 +115,7 @@ module _ (x : ℕ) (kept : Record) (ls cs ts : List ℕ) (w : Samples x (tracker
   pub again-done : (d : ℕ) → firstPlace x (liveOf s) ≡ some d
       → (j : ℕ) → j ≡ bucketFor (profileOf (kept .settings)) (kept .threshold) (some d) → (ls' cs' ts' : List ℕ)
       → recorded true cs' ts' ≡ recordedOf (kept .numbers .references) (kept .threshold) j (bucketsOf cs ts) → ls' ≡ movedToFront d x ls
-      → outcome (replyResult ((referredOf (countedIn kept (kept .threshold) (kept .live) 1) (answer.Again d)) .answer))
-      (tracker ((referredOf (countedIn kept (kept .threshold) (kept .live) 1) (answer.Again d)) .kept) ls' cs' ts') ≡ referOf x s
+      → outcome (gives (again d)) (tracker (countedIn kept (kept .threshold) (kept .live) 1) ls' cs' ts') ≡ referOf x s
   unfolding sampledStep
   again-done d found j is ls' cs' ts' e m =
       let r = recorded-left (some d) found j is cs' ts' e in
@@ -134,12 +130,21 @@ module _ (x : ℕ) (kept : Record) (ls cs ts : List ℕ) (w : Samples x (tracker
       })
       ∙ sym (r .1)
 
+  -- what a first reference leaves, by what the list came to, and the buckets
+  abbrev entered : Lowering → Histogram → Outcome Reply Tracker
+  entered z g = record {
+    result = gives first;
+    left = record {
+      kept = countedIn kept (z .result .threshold) (z .result .live) 1;
+      tables = record { locations = z .table; histogram = g };
+    };
+  }
+
   module _ (none-found : firstPlace x (liveOf s) ≡ none) (ls' cs' ts' : List ℕ)
       (e : recorded true cs' ts' ≡ recordedOf (kept .numbers .references) (kept .threshold) (kept .settings .buckets + 1) (bucketsOf cs ts)) where
     -- it entered the list, with room or with a lowering
     pub first-done : (low : Lowered) → lowering low ls' ≡ enteredOf kept x ls
-        → outcome (replyResult ((referredOf (countedIn kept (low .threshold) (low .live) 1) answer.First) .answer))
-        (tracker ((referredOf (countedIn kept (low .threshold) (low .live) 1) answer.First) .kept) ls' cs' ts') ≡ referOf x s
+        → outcome (gives first) (tracker (countedIn kept (low .threshold) (low .live) 1) ls' cs' ts') ≡ referOf x s
     unfolding sampledStep withinLimit
     first-done low m =
         let r = recorded-left none none-found (kept .settings .buckets + 1) refl cs' ts' e in
@@ -153,33 +158,18 @@ module _ (x : ℕ) (kept : Record) (ls cs ts : List ℕ) (w : Samples x (tracker
         let q : kept .live + 1 ≡ longer = omega (arith, l) in
         let p : lowering low ls' ≡ lowering (record { threshold = kept .threshold; live = longer }) (over (x ∷ liveOf s) ls) =
         m ∙ rw t (λ i. lowering (record { threshold = kept .threshold; live = q i }) (o i)) in
-        (λ i. record {
-          result = gives first;
-          left = record {
-            kept = countedIn kept (p i .result .threshold) (p i .result .live) 1;
-            tables = record { locations = p i .table; histogram = r .0 i };
-          };
-        })
-        ∙ sym (r .1 ∙ rw n))
+        (λ i. entered (p i) (r .0 i)) ∙ sym (r .1 ∙ rw n))
         (λ t.
         let no-room = ltb-false (kept .live) (kept .settings .limit) t in
         let n : ltb (kept .settings .limit) longer ≡ true = lt-ltb (kept .settings .limit) longer (omega (arith, l, no-room)) in
         let p : lowering low ls' ≡ loweringOf (hashFor (kept .settings)) (kept .threshold) (kept .live) x ls = m ∙ rw t in
-        (λ i. record {
-          result = gives first;
-          left = record {
-            kept = countedIn kept (p i .result .threshold) (p i .result .live) 1;
-            tables = record { locations = p i .table; histogram = r .0 i };
-          };
-        })
-        ∙ sym (r .1 ∙ rw n))
+        (λ i. entered (p i) (r .0 i)) ∙ sym (r .1 ∙ rw n))
 
 -- a reference whose hash is not below the threshold
 pub skipped-done : (x : ℕ) (kept : Record) (ls cs ts : List ℕ)
     → tornRecord kept ≡ false → tooShort (kept .settings) (tablesOf ls cs ts) ≡ false → full (kept .numbers) ≡ false
     → under (hashFor (kept .settings)) (kept .threshold) x ≡ false
-    → outcome (replyResult ((referredOf (countedIn kept (kept .threshold) (kept .live) 0) answer.Skipped) .answer))
-    (tracker ((referredOf (countedIn kept (kept .threshold) (kept .live) 0) answer.Skipped) .kept) ls cs ts) ≡ referOf x (tracker kept ls cs ts)
+    → outcome (gives skipped) (tracker (countedIn kept (kept .threshold) (kept .live) 0) ls cs ts) ≡ referOf x (tracker kept ls cs ts)
 skipped-done x kept ls cs ts e f g h =
     let s = tracker kept ls cs ts in
     let n : kept .live ≤ length ls = omega (arith, whole kept e .live-high, all-long (kept .settings) (s .tables) f .locations-long) in
