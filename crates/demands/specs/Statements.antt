@@ -16,7 +16,7 @@ use Rattle.rules.specs.Order.{outcome}
 use Rattle.rules.specs.Events.{eventBytes, eventLength, Fits, readOf, writeOf}
 use Rattle.rules.specs.Layout.{Tracker, liveOf, hashFor, profileOf}
 use Rattle.rules.specs.Calls.{setupOf, restartOf, referOf, ownPoint}
-use Rattle.rules.specs.History.{recency, distance, Largest, Reference, locations}
+use Rattle.rules.specs.History.{recency, distance, Largest, Reference, location, locations}
 use Rattle.rules.specs.Cache.{hits}
 use Rattle.demands.specs.Runs.{Run, answers, sampledIn}
 
@@ -39,7 +39,7 @@ LiveList = (past : List Reference) (s : Tracker) → Run past s → liveOf s ≡
 -- as if nothing else had been tracked.": it is the live list of a run, on the same settings, of just the references that hash below it
 pub record Alone (past : List Reference) (s : Tracker) : Type 0 where
   pub other : Tracker
-  pub run : Run (keep (inForce s) past) other
+  pub run : Run (keep (λ x. inForce s (location x)) past) other
   pub same-settings : other .kept .settings ≡ s .kept .settings
   pub same-list : liveOf other ≡ liveOf s
 
@@ -48,11 +48,13 @@ NothingElse = (past : List Reference) (s : Tracker) → Run past s → Alone pas
 
 -- "Each distance answered is the number of different other locations, hashing below the threshold then in force, referenced since that
 -- location's previous reference.": the whole answer is the history's
-abbrev pub historyReply : Tracker → List Reference → ℕ → Reply
-historyReply s past x = cond (inForce s x) (cond (has x (locations past)) (again (distance (inForce s) x (locations past))) first) skipped
+abbrev pub historyReply : Tracker → List Reference → Reference → Reply
+historyReply s past x =
+    let here = location x in
+    cond (inForce s here) (cond (has here (locations past)) (again (distance (inForce s) here (locations past))) first) skipped
 
 abbrev pub Answers : Type 0
-Answers = (past : List Reference) (s after : Tracker) (x : ℕ) (r : Reply) → Run past s
+Answers = (past : List Reference) (s after : Tracker) (x : Reference) (r : Reply) → Run past s
     → referOf x s ≡ outcome (gives r) after → r ≡ historyReply s past x
 
 -- references is the number of references since the start, sampled of those answered Again or First, live the list's length
@@ -97,7 +99,7 @@ WrittenReadBack = (e : Event) → Fits e → (buffer : List ℕ) (n : ℕ) → w
 
 -- a reference is refused only when Full, and then it is
 abbrev pub OnlyFull : Type 0
-OnlyFull = (past : List Reference) (s : Tracker) (x : ℕ) → Run past s
+OnlyFull = (past : List Reference) (s : Tracker) (x : Reference) → Run past s
     → referOf x s ≡ cond (eqb (length past) mostReferences) (outcome (refused 4) s) (outcome (gives (historyReply s past x)) (referOf x s .left))
 
 -- a point under the record's own shape is refused only 6 or 9, exactly on their conditions
@@ -121,7 +123,7 @@ Bounds = (past : List Reference) (s : Tracker) → Run past s → (j : ℕ) → 
 
 -- a refused call leaves the run what it was, so that refused calls may stand anywhere in it
 pub record Unmoved (past : List Reference) (s : Tracker) : Type 0 where
-  pub by-refer : (x n : ℕ) → referOf x s .result ≡ refused n → Run past (referOf x s .left)
+  pub by-refer : (x : Reference) (n : ℕ) → referOf x s .result ≡ refused n → Run past (referOf x s .left)
   pub by-restart : (n : ℕ) → restartOf (s .kept) (s .tables) .result ≡ refused n
       → Run past (record { kept = s .kept; tables = restartOf (s .kept) (s .tables) .left })
   pub by-setup : (given : Settings) (n : ℕ) → setupOf given (s .tables) .result ≡ refused n

@@ -6,11 +6,14 @@ use lib.Dec.{ltb}
 use lib.ListN.{length}
 use Rattle.rules.specs.Lists.{keep, upto, without}
 
--- a reference, as a history has it: its location
+-- a reference, as a history has it: a location, and nothing beside it
 abbrev pub Reference : Type 0
 Reference = ℕ
 
--- the locations of a history. What a reference carries beside its location is left out here, and nowhere else
+-- its location, and those of a history: the statements about runs come to locations through these two
+abbrev pub location : Reference → ℕ
+location x = x
+
 abbrev pub locations : List Reference → List ℕ
 locations past = past
 
