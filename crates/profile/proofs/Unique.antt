@@ -7,5 +7,6 @@ module _ (width : ℕ) where
   pub bucket-of-once : (buckets d a b : ℕ) → a ≡ widths (max 1 width) buckets .bucketOf d → b ≡ widths (max 1 width) buckets .bucketOf d → a ≡ b
   bucket-of-once buckets d a b e f = e ∙ sym f
 
-  pub size-of-once : (point a b : ℕ) → a ≡ widths width point .size point → b ≡ widths width point .size point → a ≡ b
-  size-of-once point a b e f = e ∙ sym f
+  pub size-of-once : (point a b : ℕ)
+      → ((buckets : ℕ) → a ≡ widths width buckets .size point) → ((buckets : ℕ) → b ≡ widths width buckets .size point) → a ≡ b
+  size-of-once point a b e f = e 0 ∙ sym (f 0)

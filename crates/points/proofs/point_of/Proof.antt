@@ -21,7 +21,7 @@ sub-t9 : tie.Need-sub-t9
 sub-t9 c = search needs
 
 returns-2 : tie.Need-returns-2
-returns-2 c = rw (ne-eqb _ _ (c .before .before .before .if1 .left), c .before .size-of .ensures)
+returns-2 c = rw (ne-eqb _ _ (c .before .before .before .if1 .left), c .before .size-of .ensures 0)
 
 pub point-of-spec : {M : Type 1} → statement M
 point-of-spec = tie.close (tie.spec returns cast-size-of cast-size-of-2 size-of-requires sub-t9 returns-2)

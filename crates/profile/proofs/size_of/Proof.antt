@@ -1,4 +1,5 @@
 use Prim.Native.Nat.{ℕ, _*_, _^_, _≤_, _<_}
+use mathlib.Core.Path.{refl}
 use native.Mathlib.Nat.{mul-le-mul-left}
 use native.Mathlib.Omega.{arith}
 use borrow.Author.Needs.{needs}
@@ -13,7 +14,7 @@ mul-result : tie.Need-mul-result
 mul-result c = record { fits = product-fits _ _ (search needs) (search needs) }
 
 returns : tie.Need-returns
-returns c = search needs
+returns c = λ buckets. refl
 
 pub size-of-spec : {M : Type 1} → statement M
 size-of-spec = tie.close (tie.spec mul-result returns)
