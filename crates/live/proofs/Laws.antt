@@ -180,7 +180,7 @@ pub falls : (hash : ℕ → ℕ) (t n x : ℕ) (xs : List ℕ) {own others most 
 unfolding largest
 falls hash t n x xs p q r s = record { own-is = p; fallen-is = rw (← p, ← q, ← r) s }
 
--- and of the first n those below it are remaining
+-- and of the first n, those below it stay
 module _ (hash : ℕ → ℕ) (t n x : ℕ) (xs mid : List ℕ) (own fallen number : ℕ) (f : Fallen hash t n x xs own fallen)
     (k : remaining number mid ≡ remainingOf hash fallen n xs) where
   pub room : own < fallen → number < length xs

@@ -23,7 +23,7 @@ use Rattle.rules.specs.declared.Written.the-variants as written
 use Rattle.rules.specs.Settings.{Tables}
 use Rattle.rules.specs.Reference.{Reply, skipped, first, again}
 
--- what a call says: a refusal, by its number, or what the call is for
+-- what a call answers: a refusal, by its number, or what the call is for
 pub data Result (A : Type 0) : Type 0 where
   refused : ℕ → Result A
   gives : A → Result A

@@ -79,7 +79,7 @@ plotOf kept believed point g = says (pointOrder kept believed point g) (plotPoin
 
 -- ---- trace events
 
--- a start over a tracker that had the record kept: a refused one keeps it
+-- a start over a tracker that had the record `kept`: a refused start leaves that record
 abbrev pub startedOver : Record → Result Record → Tables → Outcome (Unit {0}) Tracker
 startedOver kept (refused n) t = outcome (refused n) (record { kept = kept; tables = t })
 startedOver kept (gives r) t = outcome (gives tt) (record { kept = r; tables = t })
