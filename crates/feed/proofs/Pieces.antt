@@ -1,20 +1,22 @@
--- Feeding in pieces, cut anywhere, is feeding the whole. By `by-feeding`: an event that was read reads the same with more bytes behind it, and
+-- Feeding in pieces, cut anywhere, is feeding the whole; and feeding just the bytes that were taken leaves the same. By `by-feeding`: an event that was read reads the same with more bytes behind it, and
 -- one that was cut is not taken, so that it is read again with them. Assumes nothing.
 use Prim.Native.Nat.{ℕ, _+_, _-_, _≤_, _<_}
-use mathlib.Core.Path.{_≡_, refl, sym, _∙_}
-use mathlib.Core.List.{List, _++_}
-use native.Mathlib.Nat.{zero-add, add-assoc}
+use mathlib.Core.Path.{_≡_, refl, sym, ap, _∙_}
+use mathlib.Core.List.{List, [], _++_}
+use native.Mathlib.Nat.{zero-add, add-zero, add-assoc}
 use native.Mathlib.Omega.{arith}
-use lib.ListN.{length, drop, length-append, length-drop}
-use lib.Seq.{drop-append-le, drop-drop}
+use lib.ListN.{length, take, drop, length-append, length-drop}
+use lib.Seq.{drop-append-le, drop-drop, length-take-le}
 use borrow.Author.Tests.{ne-eqb}
 use Rattle.rules.specs.Answers.{Result, refused, gives, Got}
 use Rattle.rules.specs.Events.{readOf}
+use Rattle.rules.specs.Order.{Outcome, outcome}
 use Rattle.rules.specs.Layout.{Tracker}
+use Rattle.rules.specs.Calls.{applyOf}
 use Rattle.rules.proofs.Events.{taken}
-use Rattle.feed.specs.Feed.{End, whole, inside, Feeding, further, afterReading, feedOf, onward, resumed}
-use Rattle.rules.proofs.Fronts.{read-more, read-short, read-refused}
-use Rattle.feed.proofs.Laws.{feed-reads, by-feeding}
+use Rattle.feed.specs.Feed.{End, whole, inside, Feeding, stopped, further, afterEvent, afterReading, feedOf, onward, resumed, justTaken}
+use Rattle.rules.proofs.Fronts.{read-more, read-short, read-refused, drop-take, read-front}
+use Rattle.feed.proofs.Laws.{taking, apply-either, feed-none, feed-reads, by-feeding}
 
 -- ---- where feeding ends
 
@@ -76,3 +78,55 @@ pieces bytes more = by-feeding (λ bytes s f. feedOf (bytes ++ more) s ≡ resum
     more-reads bytes more s (omega (arith, taken bytes e)) (gives g) (read-more bytes more e)
     ∙ rw (t .is, drop-append-le (g .taken) bytes more (taken bytes e .1), h)
     (onward-further (f .result) (g .taken) (f .taken) bytes more (f .left))) bytes
+
+-- ---- the bytes that were taken
+
+-- if none was, nothing has changed
+pub none-taken : (bytes : List ℕ) (s : Tracker) → feedOf bytes s .taken ≡ 0 → feedOf bytes s .left ≡ s
+none-taken = by-feeding (λ bytes s f. f .taken ≡ 0 → f .left ≡ s)
+    (λ s z. refl)
+    (λ bytes s some e z. refl)
+    (λ bytes s n other some e z. refl)
+    (λ bytes s g n e q z. refl)
+    (λ bytes s g left e t h z. absurd (omega (arith, taken bytes e)))
+
+-- nothing fed leaves all as it was
+nothing : (bytes : List ℕ) (s : Tracker) → feedOf (take 0 bytes) s ≡ stopped (gives whole) s
+nothing bytes s = feed-none (take 0 bytes) s refl
+
+-- fed alone, they leave the same
+pub taken-alone : (bytes : List ℕ) (s : Tracker) → feedOf (take (feedOf bytes s .taken) bytes) s ≡ justTaken (feedOf bytes s)
+taken-alone = by-feeding (λ bytes s f. feedOf (take (f .taken) bytes) s ≡ justTaken f)
+    (λ s. nothing [] s)
+    (λ bytes s some e. nothing bytes s)
+    (λ bytes s n other some e. nothing bytes s)
+    (λ bytes s g n e q. nothing bytes s)
+    (λ bytes s g left e t h.
+    let n = feedOf (drop (g .taken) bytes) left .taken in
+    let e' = read-front (g .taken + n) bytes e (omega arith) in
+    feed-reads (take (g .taken + n) bytes) s (omega (arith, taken (take (g .taken + n) bytes) e')) (gives g) e'
+    ∙ rw (t .is, drop-take (g .taken) n bytes, h))
+
+-- ---- the bytes of one event
+
+-- fed alone, the first event is taken, or refused with nothing changed
+module _ (bytes : List ℕ) (s : Tracker) (g : Got) (e : readOf bytes ≡ gives g) where
+  abbrev event : List ℕ
+  event = take (g .taken) bytes
+
+  reads : (said : Outcome (Unit {0}) Tracker) → applyOf (g .event) s ≡ said → feedOf event s ≡ afterEvent feedOf (g .taken) event (said .result) (said .left)
+  reads said is =
+      let e' = read-front (g .taken) bytes e (omega arith) in
+      feed-reads event s (omega (arith, taken event e')) (gives g) e'
+      ∙ ap (λ o. afterEvent feedOf (g .taken) event (o .result) (o .left)) is
+
+  no-more : (left : Tracker) → feedOf (drop (g .taken) event) left ≡ stopped (gives whole) left
+  no-more left = feed-none (drop (g .taken) event) left (rw length-drop (omega (arith, length-take-le (g .taken) bytes (taken bytes e .1))))
+
+  pub one-event : {C : Type 0}
+      → ((left : Tracker) → applyOf (g .event) s ≡ taking left → feedOf event s ≡ record { taken = g .taken; result = gives whole; left = left } → C)
+      → ((n : ℕ) → applyOf (g .event) s ≡ outcome (refused n) s → feedOf event s ≡ stopped (refused n) s → C) → C
+  one-event took refuses = apply-either s (g .event)
+      (λ left t. took left (t .is)
+      (reads (taking left) (t .is) ∙ ap (further (g .taken)) (no-more left) ∙ (λ i. record { taken = add-zero (g .taken) i; result = gives whole; left = left })))
+      (λ n q. refuses n q (reads (outcome (refused n) s) q))

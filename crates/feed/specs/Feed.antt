@@ -64,6 +64,10 @@ onward (gives e) taken bytes more s = further taken (feedOf (drop taken bytes ++
 abbrev pub resumed : Feeding → (bytes more : List ℕ) → Feeding
 resumed f bytes more = onward (f .result) (f .taken) bytes more (f .left)
 
+-- feeding just the bytes that were taken: whatever ended it, those bytes end after a whole event, and leave the same
+abbrev pub justTaken : Feeding → Feeding
+justTaken f = record { taken = f .taken; result = gives whole; left = f .left }
+
 -- ---- what the code returns, with the tables as the call left them
 
 abbrev pub endingResult : Ending → Result End
