@@ -5,6 +5,7 @@ use rules::MOST_KIND;
 use rules::MOST_LIMIT;
 use rules::MOST_REFERENCES;
 use rules::MOST_WIDTH;
+use rules::Numbers;
 use rules::Record;
 use rules::Refusal;
 use rules::Settings;
@@ -14,7 +15,7 @@ ghost use lib.Dec.{ltb};
 ghost use Rattle.rules.specs.Settings.{outOfRange, needed, outside};
 ghost use Rattle.rules.specs.Answers.{number};
 ghost use Rattle.rules.specs.Layout.{tablesBefore, bucketsBefore};
-ghost use Rattle.rules.specs.Conditions.{bucketsTooShort, tooShort, tornRecord, stale};
+ghost use Rattle.rules.specs.Conditions.{bucketsTooShort, tooShort, tornRecord, full, stale};
 
 // The number of a refusal.
 pub fn number_of(why: Refusal) -> u64
@@ -86,6 +87,13 @@ pub fn too_short(s: Settings, locations: &[u64], counts: &[u64], thresholds: &[u
     ensures { λ r. ⌜ r ≡ tooShort s (tablesBefore locations counts thresholds) ⌝ }
 {
     ((locations.len() as u64) < s.limit) | buckets_too_short(s, counts, thresholds)
+}
+
+// Whether no more references can be counted.
+pub fn is_full(n: Numbers) -> bool
+    ensures { λ r. ⌜ r ≡ full n ⌝ }
+{
+    n.references == MOST_REFERENCES
 }
 
 // Whether the believed shape differs from the tracker's.

@@ -1,7 +1,7 @@
 -- One reference in the tables: what each branch of the code leaves is what the rules say. Assumes nothing.
 use Prim.Native.Nat.{ℕ, suc, _+_, _≤_, _<_}
 use mathlib.Core.Path.{_≡_, refl, sym, ap, _∙_}
-use mathlib.Core.Bool.{true, false, cond}
+use mathlib.Core.Bool.{Bool, true, false, cond}
 use mathlib.Core.List.{List, _∷_}
 use mathlib.Core.Option.{Option, some, none}
 use native.Mathlib.Omega.{arith}
@@ -31,7 +31,7 @@ use Rattle.buckets.proofs.Laws.{recorded-needed}
 use Rattle.live.specs.declared.Lowered.{Lowered}
 use Rattle.live.specs.Live.{Lowering, movedToFront, lowering, loweringOf}
 use Rattle.live.proofs.Laws.{found-below, moved-over, moved-new}
-use Rattle.refer.specs.Refer.{countedIn, enteredOf, Samples}
+use Rattle.refer.specs.Refer.{countedIn, enteredOf, Samples, skipOf}
 
 module _ (x : ℕ) (kept : Record) (ls cs ts : List ℕ) (w : Samples x (tracker kept ls cs ts)) where
   abbrev s : Tracker
@@ -189,3 +189,22 @@ skipped-done x kept ls cs ts e f g h =
       };
     })
     ∙ sym (refer-accept x s a ∙ (λ i. record { result = gives (q i .reply); left = stored (q i) s }))
+
+-- what is skipped is what the rules skip
+pub skip-is : (x : ℕ) (kept : Record) (ls cs ts : List ℕ) {after : Record} → some after ≡ skipOf x (tracker kept ls cs ts)
+    → outcome (gives skipped) (tracker after ls cs ts) ≡ referOf x (tracker kept ls cs ts)
+skip-is x kept ls cs ts {after} is = cases (tornRecord kept) (λ e. not-none (rw e at is))
+    (λ e. cases (tooShort (kept .settings) (tablesOf ls cs ts)) (λ f. not-none (rw (e, f) at is))
+    (λ f. cases (full (kept .numbers)) (λ g. not-none (rw (e, f, g) at is))
+    (λ g. cases (under (hashFor (kept .settings)) (kept .threshold) x) (λ h. not-none (rw (e, f, g, h) at is))
+    (λ h. ap (λ z. outcome (gives skipped) (tracker z ls cs ts)) (some-injective (rw (e, f, g, h) at is)) ∙ skipped-done x kept ls cs ts e f g h))))
+  where
+    isSome : Option Record → Bool
+    isSome (some k) = true
+    isSome none = false
+
+    not-none : {C : Type 0} → some after ≡ none → C
+    not-none e = clash {b = isSome (some after)} refl (ap isSome e)
+
+    some-injective : {a b : Record} → some a ≡ some b → a ≡ b
+    some-injective e = cc

@@ -2,6 +2,7 @@
 use Prim.Native.Nat.{ℕ, _+_}
 use mathlib.Core.Path.{_≡_}
 use mathlib.Core.Bool.{true, false, cond}
+use mathlib.Core.Option.{Option, some, none}
 use mathlib.Core.List.{List}
 use lib.Dec.{ltb}
 use Rattle.rules.specs.declared.Record.{Record}
@@ -10,6 +11,8 @@ use Rattle.rules.specs.declared.Answer.{Answer}
 use Rattle.rules.specs.Reference.{under}
 use Rattle.rules.specs.Layout.{Tracker, hashFor}
 use Rattle.rules.specs.Conditions.{tooShort, tornRecord, full}
+use Rattle.refer.specs.declared.Skipping.{Skipping}
+use Rattle.refer.specs.declared.Skipping.the-variants as skipping
 use Rattle.live.specs.Live.{Lowering, movedToFront, lowering, loweringOf}
 
 abbrev pub referredOf : Record → Answer → Referred
@@ -37,3 +40,15 @@ pub record Samples (x : ℕ) (s : Tracker) : Type 0 where
   pub tables-long : tooShort (s .kept .settings) (s .tables) ≡ false
   pub room : full (s .kept .numbers) ≡ false
   pub below : under (hashFor (s .kept .settings)) (s .kept .threshold) x ≡ true
+
+-- the record after a reference that is accepted and not sampled; none if it is refused or sampled
+abbrev pub skipOf : (x : ℕ) → Tracker → Option Record
+skipOf x s =
+    cond (tornRecord (s .kept)) none
+    (cond (tooShort (s .kept .settings) (s .tables)) none
+    (cond (full (s .kept .numbers)) none
+    (cond (under (hashFor (s .kept .settings)) (s .kept .threshold) x) none (some (countedIn (s .kept) (s .kept .threshold) (s .kept .live) 0)))))
+
+abbrev pub skipResult : Skipping → Option Record
+skipResult (skipping.Counted kept) = some kept
+skipResult skipping.Not = none

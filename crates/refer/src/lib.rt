@@ -4,7 +4,6 @@ use live::Found;
 use live::Lowered;
 use rules::Answer;
 use rules::FULL_RATE;
-use rules::MOST_REFERENCES;
 use rules::Numbers;
 use rules::Record;
 use rules::Referred;
@@ -18,7 +17,7 @@ ghost use Rattle.rules.specs.Answers.{replyResult};
 ghost use Rattle.rules.specs.Order.{outcome};
 ghost use Rattle.rules.specs.Layout.{tracker, liveOf, trackerAfter, trackerBefore};
 ghost use Rattle.rules.specs.Calls.{referOf};
-ghost use Rattle.refer.specs.Refer.{referredOf, countedIn, enteredOf, Samples};
+ghost use Rattle.refer.specs.Refer.{referredOf, countedIn, enteredOf, Samples, skipResult, skipOf};
 ghost use Rattle.live.specs.Live.{lowering};
 
 // A refusal, with the record unchanged.
@@ -153,6 +152,40 @@ fn sampled(
     }
 }
 
+// Most references: accepted, and not sampled.
+pub enum Skipping {
+    // The reference is Skipped, and this is the record after it.
+    Counted(Record),
+    // It is refused or sampled.
+    Not,
+}
+
+// Whether a reference is accepted and Skipped: then only the number of references rises, and nothing else changes. `refer` says the
+// same; this is the part of it that is short enough to be compiled into each caller.
+pub fn skip(
+    kept: Record,
+    location: u64,
+    locations: &[u64],
+    counts: &[u64],
+    thresholds: &[u32],
+) -> Skipping
+    ensures { λ r. ⌜ skipResult r ≡ skipOf location (trackerBefore kept locations counts thresholds) ⌝ }
+{
+    if judge::torn(kept) {
+        return Skipping::Not;
+    }
+    if judge::too_short(kept.settings, locations, counts, thresholds) {
+        return Skipping::Not;
+    }
+    if judge::is_full(kept.numbers) {
+        return Skipping::Not;
+    }
+    if hash::hash_of(kept.settings.hashing, location) < kept.threshold {
+        return Skipping::Not;
+    }
+    Skipping::Counted(counted_in(kept, kept.threshold, kept.live, 0))
+}
+
 // One reference.
 pub fn refer(
     kept: Record,
@@ -170,7 +203,7 @@ pub fn refer(
     if judge::too_short(kept.settings, locations, counts, thresholds) {
         return refused(kept, Refusal::Tables);
     }
-    if kept.numbers.references == MOST_REFERENCES {
+    if judge::is_full(kept.numbers) {
         return refused(kept, Refusal::Full);
     }
     if kept.threshold <= hash::hash_of(kept.settings.hashing, location) {

@@ -3,9 +3,10 @@
 use native.Mathlib.Omega.{arith}
 use mathlib.Core.Bool.{false}
 use mathlib.Core.Path.{_≡_, refl, sym, _∙_}
-use borrow.Author.Tests.{eq-eqb, ne-eqb, lt-ltb, le-ltb}
+use borrow.Author.Tests.{eqb-false, lt-ltb, le-ltb}
+use Rattle.rules.specs.Settings.{mostReferences}
 use Rattle.rules.specs.Layout.{tablesOf}
-use Rattle.rules.specs.Conditions.{tornRecord, tooShort}
+use Rattle.rules.specs.Conditions.{tornRecord, tooShort, full}
 use Rattle.rules.proofs.Bounds.{whole}
 use Rattle.rules.proofs.Calls.{refer-torn, refer-short, refer-full}
 use Rattle.refer.proofs.OneReference.{skipped-done}
@@ -30,6 +31,9 @@ not-torn d = sym (d .before .torn .ensures) ∙ d .if1 .left
 not-short : (d : tie.Else2) → let a = start (first-passed d) .args in
     tooShort (a .kept .settings) (tablesOf (a .locations .now) (a .counts .now) (a .thresholds .now)) ≡ false
 not-short d = sym (d .before .too-short .ensures) ∙ d .if2 .left
+
+not-full : (d : tie.Else3) → full (start (first-passed (second-passed d)) .args .kept .numbers) ≡ false
+not-full d = sym (d .before .is-full .ensures) ∙ d .if3 .left
 
 torn-requires : tie.Need-torn-requires
 torn-requires c κs = tt
@@ -61,6 +65,9 @@ returns-2 c =
     let short = sym (c .before .before .too-short .ensures) ∙ c .before .if2 .taken in
     rw (c .refused2 .ensures) (sym (refer-short _ _ (not-torn one) short))
 
+is-full-requires : tie.Need-is-full-requires
+is-full-requires c κs = tt
+
 refused-requires-3 : tie.Need-refused-requires-3
 refused-requires-3 c κs = tt
 
@@ -75,7 +82,7 @@ same-length-6 c = refl
 
 returns-3 : tie.Need-returns-3
 returns-3 c = let two = c .before .before .before in
-    rw (c .refused3 .ensures) (sym (refer-full _ _ (not-torn (first-passed two)) (not-short two) (eq-eqb _ _ (c .before .if3 .taken))))
+    rw (c .refused3 .ensures) (sym (refer-full _ _ (not-torn (first-passed two)) (not-short two) (sym (c .before .before .is-full .ensures) ∙ c .before .if3 .taken)))
 
 hash-of-requires : tie.Need-hash-of-requires
 hash-of-requires c κs = tt
@@ -84,7 +91,7 @@ counted-in-requires : tie.Need-counted-in-requires
 counted-in-requires c κs =
     let three = c .before .before .before in
     let b = whole _ (not-torn (first-passed (second-passed three))) in
-    (omega (arith, b .references-high, three .if3 .left), b .sampled-high, omega arith)
+    (omega (arith, b .references-high, eqb-false (start (first-passed (second-passed three)) .args .kept .numbers .references) mostReferences (not-full three)), b .sampled-high, omega arith)
 
 same-length-7 : tie.Need-same-length-7
 same-length-7 c = refl
@@ -100,7 +107,7 @@ returns-4 c =
     let hashed = c .before .before .before in
     let three = hashed .before in
     let two = second-passed three in
-    rw (c .counted-in .ensures) (skipped-done _ _ _ _ _ (not-torn (first-passed two)) (not-short two) (ne-eqb _ _ (three .if3 .left))
+    rw (c .counted-in .ensures) (skipped-done _ _ _ _ _ (not-torn (first-passed two)) (not-short two) (not-full three)
     (le-ltb _ _ (rw (hashed .hash-of .ensures) at (c .before .if4 .taken))))
 
 sampled-requires : tie.Need-sampled-requires
@@ -112,7 +119,7 @@ sampled-requires c κs =
     record {
       record-whole = not-torn (first-passed two);
       tables-long = not-short two;
-      room = ne-eqb _ _ (three .if3 .left);
+      room = not-full three;
       below = lt-ltb _ _ (rw (hashed .hash-of .ensures) at (four .if4 .left));
     }
 
@@ -141,6 +148,7 @@ refer-spec =
     same-length-2
     same-length-3
     returns-2
+    is-full-requires
     refused-requires-3
     same-length-4
     same-length-5
