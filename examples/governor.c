@@ -1,114 +1,122 @@
 /*
- * The spring incident, replayed. A governor plans with a point of a long curve and keeps that curve's shape. The curve is set up anew,
- * shorter. Asked for with the old shape, the old point is refused by name: Stale. Asked for with the new shape, it is refused as past
- * the end: Point. Then the governor plans a new point, and that is answered.
+ * The spring incident, replayed. A governor plans with a point of a long curve and keeps that curve's shape. The curve is set up
+ * anew, shorter. Asked for with the old shape, the old point is refused by name: Stale. Asked for with the new shape, it is
+ * refused as past the end: Point. Then the governor plans a new point, and that is answered.
  */
 #include "rockgingham.h"
 
 #include <inttypes.h>
 #include <stdio.h>
-#include <string.h>
 
-enum { LOCATIONS = 1024, BUCKETS = 512 };
-
-struct tracker {
-    uint64_t record[ROCKGINGHAM_RECORD];
-    uint64_t locations[LOCATIONS];
-    uint64_t counts[BUCKETS + 2];
-    uint32_t thresholds[BUCKETS + 2];
+/* How much is lent: enough for sample limits up to 1,024 and for up to 512 buckets. */
+enum {
+    WORDS = ROCKGINGHAM_RECORD_WORDS,
+    LOCATIONS = ROCKGINGHAM_LOCATIONS_NEEDED(1024),
+    COUNTS = ROCKGINGHAM_COUNTS_NEEDED(512),
+    THRESHOLDS = ROCKGINGHAM_THRESHOLDS_NEEDED(512)
 };
 
+struct tracker {
+    uint64_t record[WORDS];
+    uint64_t locations[LOCATIONS];
+    uint64_t counts[COUNTS];
+    uint32_t thresholds[THRESHOLDS];
+};
+
+/* A point, and the shape of the curve that it was planned with. */
 struct governor {
     struct rockgingham_shape shape;
     uint64_t number;
 };
 
-static const char *name_of(uint64_t answer)
+static const char *name_of(uint64_t refusal)
 {
-    static const char *const names[] = {"accepted", "Settings", "Tables", "Torn", "Full",
-                                        "Stale",    "Point",    "Short",  "Kind", "Empty"};
-    return answer < sizeof names / sizeof names[0] ? names[answer] : "unknown";
+    static const char *const names[] = {
+        [ROCKGINGHAM_ACCEPTED] = "accepted",     [ROCKGINGHAM_REFUSED_SETTINGS] = "Settings",
+        [ROCKGINGHAM_REFUSED_TABLES] = "Tables", [ROCKGINGHAM_REFUSED_TORN] = "Torn",
+        [ROCKGINGHAM_REFUSED_FULL] = "Full",     [ROCKGINGHAM_REFUSED_STALE] = "Stale",
+        [ROCKGINGHAM_REFUSED_POINT] = "Point",   [ROCKGINGHAM_REFUSED_SHORT] = "Short",
+        [ROCKGINGHAM_REFUSED_KIND] = "Kind",     [ROCKGINGHAM_REFUSED_EMPTY] = "Empty",
+    };
+    return refusal < sizeof names / sizeof names[0] ? names[refusal] : "unknown";
 }
 
 static uint64_t set_up(struct tracker *t, struct rockgingham_settings settings)
 {
-    return rockgingham_setup(t->record, settings, t->locations, LOCATIONS, t->counts, BUCKETS + 2, t->thresholds, BUCKETS + 2);
+    return rockgingham_setup(t->record, WORDS, settings, t->locations, LOCATIONS, t->counts, COUNTS, t->thresholds, THRESHOLDS);
 }
 
 static uint64_t refer(struct tracker *t, uint64_t location)
 {
-    uint64_t answer[2];
-    return rockgingham_refer(t->record, answer, location, t->locations, LOCATIONS, t->counts, BUCKETS + 2, t->thresholds,
-                             BUCKETS + 2);
+    struct rockgingham_answer answer =
+        rockgingham_refer(t->record, WORDS, location, t->locations, LOCATIONS, t->counts, COUNTS, t->thresholds, THRESHOLDS);
+    return answer.refusal;
 }
 
 /* Reads so many blocks in a row, three times over. */
 static uint64_t work(struct tracker *t, uint64_t blocks)
 {
-    for (uint64_t turn = 0; turn < 3; turn++) {
-        for (uint64_t block = 0; block < blocks; block++) {
-            uint64_t refused = refer(t, block);
-            if (refused != 0) {
-                return refused;
-            }
-        }
+    uint64_t refusal = ROCKGINGHAM_ACCEPTED;
+    for (uint64_t i = 0; i < 3 * blocks && refusal == ROCKGINGHAM_ACCEPTED; i++) {
+        refusal = refer(t, i % blocks);
     }
-    return 0;
+    return refusal;
 }
 
 static struct rockgingham_shape shape_of(const struct tracker *t)
 {
-    struct rockgingham_shape shape = {t->record[ROCKGINGHAM_BUCKETS], t->record[ROCKGINGHAM_WIDTH]};
+    struct rockgingham_shape shape = {t->record[ROCKGINGHAM_WORD_BUCKETS], t->record[ROCKGINGHAM_WORD_WIDTH]};
     return shape;
 }
 
-/* Asks for the governor's point and prints the answer. */
-static uint64_t ask(const struct governor *g, const struct tracker *t)
+/* Asks for the governor's point and prints the answer. Returns whether it is the expected one. */
+static int ask(const struct governor *g, const struct tracker *t, uint64_t expected)
 {
-    uint64_t point[4];
-    uint64_t refused =
-        rockgingham_point(t->record, point, g->shape, g->number, t->counts, BUCKETS + 2, t->thresholds, BUCKETS + 2);
+    struct rockgingham_point point =
+        rockgingham_point(t->record, WORDS, g->shape, g->number, t->counts, COUNTS, t->thresholds, THRESHOLDS);
     printf("governor asks for point %" PRIu64 " of %" PRIu64 " buckets of %" PRIu64 " blocks: ", g->number, g->shape.buckets,
            g->shape.width);
-    if (refused != 0) {
-        printf("refused, %" PRIu64 " %s\n", refused, name_of(refused));
+    if (point.refusal != ROCKGINGHAM_ACCEPTED) {
+        printf("refused, %" PRIu64 " %s\n", point.refusal, name_of(point.refusal));
     } else {
-        printf("%" PRIu64 " blocks miss %" PRIu64 " of %" PRIu64 "\n", point[0], point[2], point[3]);
+        printf("%" PRIu64 " blocks miss %" PRIu64 " of %" PRIu64 "\n", point.size, point.misses, point.total);
     }
-    return refused;
+    return point.refusal == expected;
 }
 
-/* One step of the incident. Returns whether the answer is the expected one. */
-static int step(const char *what, uint64_t answer, uint64_t expected)
+/* One step of the incident. Returns whether it was accepted. */
+static int step(const char *what, uint64_t refusal)
 {
-    printf("%s: %" PRIu64 " %s\n", what, answer, name_of(answer));
-    return answer == expected;
+    printf("%s: %" PRIu64 " %s\n", what, refusal, name_of(refusal));
+    return refusal == ROCKGINGHAM_ACCEPTED;
 }
 
 int main(void)
 {
-    static struct tracker tracker, before;
-    const struct rockgingham_settings long_curve = {.start = 16777216, .buckets = 512, .hash_kind = 1};
-    const struct rockgingham_settings short_curve = {.start = 16777216, .buckets = 64, .width = 4, .hash_kind = 1};
-    struct governor governor = {{0, 0}, 300};
-    int right = step("a long curve is set up", set_up(&tracker, long_curve), 0);
-    right &= step("a loop over 300 blocks is measured", work(&tracker, 300), 0);
+    static struct tracker tracker;
+    struct rockgingham_settings settings = {.start = ROCKGINGHAM_FULL_RATE, .hash_kind = ROCKGINGHAM_HASH_MURMUR};
+    struct governor governor;
+    int right;
+
+    settings.buckets = 512;
+    right = step("a long curve is set up", set_up(&tracker, settings));
+    right &= step("a loop over 300 blocks is measured", work(&tracker, 300));
 
     governor.shape = shape_of(&tracker);
-    right &= ask(&governor, &tracker) == 0;
+    governor.number = 300;
+    right &= ask(&governor, &tracker, ROCKGINGHAM_ACCEPTED);
 
-    right &= step("the curve is set up anew, shorter", set_up(&tracker, short_curve), 0);
-    right &= step("a loop over 100 blocks is measured", work(&tracker, 100), 0);
+    settings.buckets = 64;
+    settings.width = 4;
+    right &= step("the curve is set up anew, shorter", set_up(&tracker, settings));
+    right &= step("a loop over 100 blocks is measured", work(&tracker, 100));
 
-    before = tracker;
-    right &= ask(&governor, &tracker) == ROCKGINGHAM_STALE;
-    right &= memcmp(&before, &tracker, sizeof tracker) == 0;
-
+    right &= ask(&governor, &tracker, ROCKGINGHAM_REFUSED_STALE);
     governor.shape = shape_of(&tracker);
-    right &= ask(&governor, &tracker) == ROCKGINGHAM_POINT;
-
+    right &= ask(&governor, &tracker, ROCKGINGHAM_REFUSED_POINT);
     governor.number = 100 / governor.shape.width;
-    right &= ask(&governor, &tracker) == 0;
-    printf("%s\n", right ? "the old point was never answered from the new curve" : "WRONG");
+    right &= ask(&governor, &tracker, ROCKGINGHAM_ACCEPTED);
+
+    printf("%s\n", right ? "shown: the point asked for under the old shape was refused 5, Stale" : "WRONG");
     return right ? 0 : 1;
 }

@@ -178,7 +178,8 @@ impl<E: Engine> Work for Points<E> {
         let believed = (self.buckets, 1);
         (0..count as u64).fold(0u64, |sum, k| {
             let p = self.engine.point(believed, k % (self.buckets + 1));
-            sum.wrapping_add(p.map_or(7, |p| p.hits ^ p.misses ^ p.size))
+            let mixed = p.size ^ p.hits.rotate_left(16) ^ p.misses.rotate_left(32) ^ p.total;
+            sum.rotate_left(1).wrapping_add(p.refusal ^ mixed)
         })
     }
 
@@ -219,13 +220,14 @@ impl Work for Reads {
         let read = unseen(self.read);
         // Four events of the trace take 40 bytes.
         let bytes = &self.bytes[..count / 4 * 40];
-        let (mut at, mut sum, mut event) = (0, 0u64, [0u64; 7]);
+        let (mut at, mut sum) = (0, 0u64);
         while at < bytes.len() {
             let left = &bytes[at..];
-            // SAFETY: the bytes are passed with their own length, and there are seven words.
-            let number = unsafe { read(event.as_mut_ptr(), left.as_ptr(), left.len()) };
-            sum = sum.wrapping_add(number ^ event[0] ^ event[2] ^ event[3]);
-            at += event[1] as usize;
+            // SAFETY: the bytes are passed with their own length.
+            let event = unsafe { read(left.as_ptr(), left.len()) };
+            let span = event.offset.rotate_left(8) ^ event.length.rotate_left(16);
+            sum = sum.wrapping_add(event.refusal ^ event.kind ^ event.location ^ span);
+            at += event.taken as usize;
         }
         sum
     }
@@ -251,6 +253,45 @@ fn reading() -> HotPath {
     }
 }
 
+struct Feeds<E> {
+    engine: E,
+    bytes: Vec<u8>,
+}
+
+/// Four events of the trace take 40 bytes, so that no piece ends inside an event.
+const PIECE: usize = 4_000;
+
+impl<E: Engine> Work for Feeds<E> {
+    fn run(&mut self, count: usize) -> u64 {
+        let mut sum = 0u64;
+        for piece in self.bytes[..count / 4 * 40].chunks(PIECE) {
+            let fed = self.engine.feed(piece);
+            sum = sum.wrapping_add(fed.refusal ^ fed.taken.rotate_left(16) ^ fed.incomplete);
+        }
+        sum
+    }
+
+    fn state(&self) -> Vec<u64> {
+        state_of(&self.engine)
+    }
+}
+
+fn feeding() -> HotPath {
+    fn work<E: Engine + 'static>() -> Box<dyn Work> {
+        Box::new(Feeds {
+            engine: E::new(settings(1024, FULL_RATE / 10, 256, 1)),
+            bytes: crate::program::trace(READ_EVENTS),
+        })
+    }
+    HotPath {
+        name: "feeding a trace, an event".to_string(),
+        timed: READ_EVENTS,
+        counted: 100_000,
+        proved: work::<Proved>,
+        plain: work::<Plain>,
+    }
+}
+
 pub fn hot_paths() -> Vec<HotPath> {
     vec![
         hash(),
@@ -261,6 +302,7 @@ pub fn hot_paths() -> Vec<HotPath> {
         point::<256>(),
         point::<10_000>(),
         reading(),
+        feeding(),
     ]
 }
 

@@ -1,11 +1,11 @@
 //! The two sides of the comparison, called in the same way.
 
-use crate::interface;
-use crate::plain::{self, Answer, Point, Record, Settings, Tables};
+use crate::interface::{self, CEvent, CFed, CPoint, CSettings, RECORD_WORDS};
+use crate::plain::{self, Answer, Event, Record, Settings, Tables};
 use crate::proved;
 
 pub type Hash = unsafe extern "C" fn(kind: u64, location: u64) -> u64;
-pub type Read = unsafe extern "C" fn(event: *mut u64, bytes: *const u8, length: usize) -> u64;
+pub type Read = unsafe extern "C" fn(bytes: *const u8, length: usize) -> CEvent;
 
 /// A tracker with its own tables, and the functions that need no tracker.
 pub trait Engine {
@@ -13,10 +13,11 @@ pub trait Engine {
     const READ: Read;
     fn new(settings: Settings) -> Self;
     fn refer(&mut self, location: u64) -> Result<Answer, u64>;
-    fn point(&self, believed: (u64, u64), number: u64) -> Result<Point, u64>;
+    fn point(&self, believed: (u64, u64), number: u64) -> CPoint;
+    fn feed(&mut self, bytes: &[u8]) -> CFed;
     fn tables(&self) -> &Tables;
     /// The record as its words, in the header's order.
-    fn words(&self) -> [u64; 9];
+    fn words(&self) -> [u64; RECORD_WORDS];
 }
 
 fn tables(settings: &Settings) -> Tables {
@@ -29,7 +30,7 @@ fn tables(settings: &Settings) -> Tables {
 }
 
 pub struct Proved {
-    words: [u64; 9],
+    words: [u64; RECORD_WORDS],
     tables: Tables,
 }
 
@@ -49,15 +50,20 @@ impl Engine for Proved {
     }
 
     #[inline(always)]
-    fn point(&self, believed: (u64, u64), number: u64) -> Result<Point, u64> {
+    fn point(&self, believed: (u64, u64), number: u64) -> CPoint {
         proved::point(&self.words, believed, number, &self.tables)
+    }
+
+    #[inline(always)]
+    fn feed(&mut self, bytes: &[u8]) -> CFed {
+        proved::feed(&mut self.words, bytes, &mut self.tables)
     }
 
     fn tables(&self) -> &Tables {
         &self.tables
     }
 
-    fn words(&self) -> [u64; 9] {
+    fn words(&self) -> [u64; RECORD_WORDS] {
         self.words
     }
 }
@@ -90,30 +96,72 @@ impl Engine for Plain {
     }
 
     #[inline(always)]
-    fn point(&self, believed: (u64, u64), number: u64) -> Result<Point, u64> {
+    fn point(&self, believed: (u64, u64), number: u64) -> CPoint {
         let t = &self.tables;
         plain::point(&self.record, believed, number, &t.counts, &t.thresholds)
+    }
+
+    #[inline(always)]
+    fn feed(&mut self, bytes: &[u8]) -> CFed {
+        let (taken, ending) = plain::feed(&mut self.record, bytes, &mut self.tables);
+        CFed {
+            refusal: ending.err().unwrap_or(0),
+            taken: taken as u64,
+            incomplete: u64::from(ending == Ok(false)),
+        }
     }
 
     fn tables(&self) -> &Tables {
         &self.tables
     }
 
-    fn words(&self) -> [u64; 9] {
+    fn words(&self) -> [u64; RECORD_WORDS] {
         proved::words(&self.record)
     }
 }
 
-/// The plain reading, called like the library's: it writes the words and returns a number.
+/// The plain reading, called like the library's.
 ///
 /// # Safety
-/// `event` points to seven words, `bytes` to `length` bytes.
-unsafe extern "C" fn plain_read(event: *mut u64, bytes: *const u8, length: usize) -> u64 {
+/// `bytes` points to `length` bytes.
+unsafe extern "C" fn plain_read(bytes: *const u8, length: usize) -> CEvent {
     match plain::read(std::slice::from_raw_parts(bytes, length)) {
-        Ok((e, taken)) => {
-            *event.cast::<[u64; 7]>() = proved::event_words(e, taken);
-            0
-        }
-        Err(number) => number,
+        Ok((event, taken)) => given(event, taken),
+        Err(refusal) => CEvent {
+            refusal,
+            ..CEvent::default()
+        },
     }
+}
+
+/// An event as the library gives it.
+#[inline(always)]
+fn given(event: Event, taken: usize) -> CEvent {
+    let mut given = CEvent {
+        taken: taken as u64,
+        ..CEvent::default()
+    };
+    match event {
+        Event::Location(location) => {
+            given.kind = 1;
+            given.location = location;
+        }
+        Event::Span(offset, length) => {
+            given.kind = 2;
+            given.offset = offset;
+            given.length = length.into();
+        }
+        Event::Restart => given.kind = 3,
+        Event::Setup([limit, start, width, buckets], kind) => {
+            given.kind = 4;
+            given.settings = CSettings {
+                limit: limit.into(),
+                start: start.into(),
+                width: width.into(),
+                buckets: buckets.into(),
+                hash_kind: kind.into(),
+            };
+        }
+    }
+    given
 }

@@ -1,5 +1,7 @@
 //! Plain Rust doing the same work as the proved code: the same tests on the record, the same tables, the same answers.
-//! Written for speed, as the author of a driver would write it.
+//! Written for speed, as the author of a driver would write it. A point is given in the struct in which C gets it.
+
+use crate::interface::CPoint;
 
 pub const FULL_RATE: u64 = 1 << 24;
 
@@ -32,14 +34,6 @@ pub enum Answer {
     Skipped,
     Again(u64),
     First,
-}
-
-#[derive(Clone, Copy, PartialEq, Eq, Debug)]
-pub struct Point {
-    pub size: u64,
-    pub hits: u64,
-    pub misses: u64,
-    pub total: u64,
 }
 
 #[derive(Clone, Copy, PartialEq, Eq, Debug)]
@@ -238,19 +232,19 @@ pub fn point(
     number: u64,
     counts: &[u64],
     thresholds: &[u32],
-) -> Result<Point, u64> {
+) -> CPoint {
     if torn(k) {
-        return Err(3);
+        return refused(3);
     }
     let s = &k.settings;
     if buckets_short(s, counts, thresholds) {
-        return Err(2);
+        return refused(2);
     }
     if believed != (s.buckets, s.width) {
-        return Err(5);
+        return refused(5);
     }
     if number > s.buckets {
-        return Err(6);
+        return refused(6);
     }
     let needed = s.buckets as usize + 2;
     let (mut raw, mut total, mut hits) = (0, 0, 0);
@@ -261,11 +255,11 @@ pub fn point(
     {
         let own = u64::from(own);
         if torn_bucket(k.references, k.threshold, count, own) {
-            return Err(3);
+            return refused(3);
         }
         raw += count;
         if raw > 256 * k.references {
-            return Err(3);
+            return refused(3);
         }
         if i as u64 == number {
             hits = total;
@@ -273,14 +267,22 @@ pub fn point(
         total += count * k.threshold / own;
     }
     if total == 0 {
-        return Err(9);
+        return refused(9);
     }
-    Ok(Point {
+    CPoint {
+        refusal: 0,
         size: number * s.width,
         hits,
         misses: total - hits,
         total,
-    })
+    }
+}
+
+fn refused(refusal: u64) -> CPoint {
+    CPoint {
+        refusal,
+        ..CPoint::default()
+    }
 }
 
 /// The first event of the bytes, with the number of bytes it took.
@@ -335,4 +337,24 @@ fn one(k: &mut Record, location: u64, t: &mut Tables) -> Result<(), u64> {
         &mut t.thresholds,
     )
     .map(|_| ())
+}
+
+/// Event after event of the bytes. Returns how many bytes were taken, and whether they were all or the rest is the beginning of an
+/// event, or the number of a refusal.
+#[inline]
+pub fn feed(k: &mut Record, bytes: &[u8], t: &mut Tables) -> (usize, Result<bool, u64>) {
+    let mut at = 0;
+    while at < bytes.len() {
+        match read(&bytes[at..]) {
+            Ok((event, taken)) => {
+                if let Err(number) = apply(k, event, t) {
+                    return (at, Err(number));
+                }
+                at += taken;
+            }
+            Err(7) => return (at, Ok(false)),
+            Err(number) => return (at, Err(number)),
+        }
+    }
+    (at, Ok(true))
 }

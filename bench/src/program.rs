@@ -57,17 +57,8 @@ fn feed(k: &mut Record, t: &mut Tables) -> Result<(), (u64, u64)> {
     loop {
         let got = input.read(&mut buffer[kept..]).expect("a read that works");
         let held = kept + got;
-        let mut at = 0;
-        loop {
-            match plain::read(&buffer[at..held]) {
-                Ok((event, taken)) => {
-                    plain::apply(k, event, t).map_err(|number| (number, before + at as u64))?;
-                    at += taken;
-                }
-                Err(7) => break,
-                Err(number) => return Err((number, before + at as u64)),
-            }
-        }
+        let (at, ending) = plain::feed(k, &buffer[..held], t);
+        ending.map_err(|number| (number, before + at as u64))?;
         buffer.copy_within(at..held, 0);
         kept = held - at;
         before += at as u64;
@@ -85,13 +76,12 @@ fn print_curve(k: &Record, t: &Tables) {
     );
     let shape = (k.settings.buckets, k.settings.width);
     for number in 0..=k.settings.buckets {
-        match plain::point(k, shape, number, &t.counts, &t.thresholds) {
-            Ok(p) => out += &format!("{} {} {}\n", p.size, p.misses, p.total),
-            Err(_) => {
-                out += "empty\n";
-                break;
-            }
+        let p = plain::point(k, shape, number, &t.counts, &t.thresholds);
+        if p.refusal != 0 {
+            out += "empty\n";
+            break;
         }
+        out += &format!("{} {} {}\n", p.size, p.misses, p.total);
         if number == k.settings.buckets {
             out += "end\n";
         }

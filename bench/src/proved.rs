@@ -1,10 +1,10 @@
 //! The proved code, as C calls it.
 
 use crate::interface::*;
-use crate::plain::{Answer, Event, Point, Record, Settings, Tables};
+use crate::plain::{Answer, Record, Settings, Tables};
 
 /// A record as its words, in the header's order.
-pub fn words(k: &Record) -> [u64; 9] {
+pub fn words(k: &Record) -> [u64; RECORD_WORDS] {
     let s = k.settings;
     [
         s.limit,
@@ -19,8 +19,8 @@ pub fn words(k: &Record) -> [u64; 9] {
     ]
 }
 
-pub fn setup(given: Settings, t: &mut Tables) -> Result<[u64; 9], u64> {
-    let mut record = [0; 9];
+pub fn setup(given: Settings, t: &mut Tables) -> Result<[u64; RECORD_WORDS], u64> {
+    let mut record = [0; RECORD_WORDS];
     let settings = CSettings {
         limit: given.limit,
         start: given.start,
@@ -32,6 +32,7 @@ pub fn setup(given: Settings, t: &mut Tables) -> Result<[u64; 9], u64> {
     let refusal = unsafe {
         rockgingham_setup(
             record.as_mut_ptr(),
+            record.len(),
             settings,
             t.locations.as_ptr(),
             t.locations.len(),
@@ -49,13 +50,16 @@ pub fn setup(given: Settings, t: &mut Tables) -> Result<[u64; 9], u64> {
 }
 
 #[inline(always)]
-pub fn refer(record: &mut [u64; 9], location: u64, t: &mut Tables) -> Result<Answer, u64> {
-    let mut answer = [0; 2];
+pub fn refer(
+    record: &mut [u64; RECORD_WORDS],
+    location: u64,
+    t: &mut Tables,
+) -> Result<Answer, u64> {
     // SAFETY: each pointer is passed with its own length, and no two of them overlap.
-    let refusal = unsafe {
+    let answer = unsafe {
         rockgingham_refer(
             record.as_mut_ptr(),
-            answer.as_mut_ptr(),
+            record.len(),
             location,
             t.locations.as_mut_ptr(),
             t.locations.len(),
@@ -65,9 +69,9 @@ pub fn refer(record: &mut [u64; 9], location: u64, t: &mut Tables) -> Result<Ans
             t.thresholds.len(),
         )
     };
-    match (refusal, answer[0]) {
+    match (answer.refusal, answer.reply) {
         (0, 0) => Ok(Answer::Skipped),
-        (0, 1) => Ok(Answer::Again(answer[1])),
+        (0, 1) => Ok(Answer::Again(answer.distance)),
         (0, _) => Ok(Answer::First),
         (number, _) => Err(number),
     }
@@ -75,21 +79,20 @@ pub fn refer(record: &mut [u64; 9], location: u64, t: &mut Tables) -> Result<Ans
 
 #[inline(always)]
 pub fn point(
-    record: &[u64; 9],
+    record: &[u64; RECORD_WORDS],
     believed: (u64, u64),
     number: u64,
     t: &Tables,
-) -> Result<Point, u64> {
-    let mut point = [0; 4];
+) -> CPoint {
     let shape = CShape {
         buckets: believed.0,
         width: believed.1,
     };
     // SAFETY: each pointer is passed with its own length, and no two of them overlap.
-    let refusal = unsafe {
+    unsafe {
         rockgingham_point(
             record.as_ptr(),
-            point.as_mut_ptr(),
+            record.len(),
             shape,
             number,
             t.counts.as_ptr(),
@@ -97,35 +100,24 @@ pub fn point(
             t.thresholds.as_ptr(),
             t.thresholds.len(),
         )
-    };
-    let [size, hits, misses, total] = point;
-    if refusal == 0 {
-        Ok(Point {
-            size,
-            hits,
-            misses,
-            total,
-        })
-    } else {
-        Err(refusal)
     }
 }
 
-/// An event as its words, in the header's order.
-pub fn event_words(event: Event, taken: usize) -> [u64; 7] {
-    let taken = taken as u64;
-    match event {
-        Event::Location(x) => [1, taken, x, 0, 0, 0, 0],
-        Event::Span(offset, length) => [2, taken, offset, length.into(), 0, 0, 0],
-        Event::Restart => [3, taken, 0, 0, 0, 0, 0],
-        Event::Setup([a, b, c, d], kind) => [
-            4,
-            taken,
-            a.into(),
-            b.into(),
-            c.into(),
-            d.into(),
-            kind.into(),
-        ],
+#[inline(always)]
+pub fn feed(record: &mut [u64; RECORD_WORDS], bytes: &[u8], t: &mut Tables) -> CFed {
+    // SAFETY: each pointer is passed with its own length, and no two of them overlap.
+    unsafe {
+        rockgingham_feed(
+            record.as_mut_ptr(),
+            record.len(),
+            bytes.as_ptr(),
+            bytes.len(),
+            t.locations.as_mut_ptr(),
+            t.locations.len(),
+            t.counts.as_mut_ptr(),
+            t.counts.len(),
+            t.thresholds.as_mut_ptr(),
+            t.thresholds.len(),
+        )
     }
 }

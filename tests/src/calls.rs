@@ -1,21 +1,26 @@
-//! Calls of the static library, compared with the model: damaged records, and tables of wrong lengths and random contents.
+//! Calls of the static library, compared with the model: damaged records, tables of wrong lengths and random contents, and any bytes.
 
-use crate::driver::{self, number_of, Driver, Lent};
+use crate::driver::{self, lent_bytes, number_of, Driver, Lent};
+use crate::events::{first_event, some_event, some_trace};
+use crate::interface::CFed;
 use crate::model::*;
 use crate::random::Random;
 use crate::tally::Tally;
+use crate::trackers::*;
+use std::fmt::Debug;
 
-/// The answers that each function must have given, each at least once.
+/// The answers that each function must have given, each at least once, and the numbers of words that records were lent with.
 pub const WANTED: &[(&str, &[&str])] = &[
     ("hash", &["kind 0", "kind 1", "kind 2"]),
-    ("setup", &["accepted", "Settings", "Tables"]),
-    ("restart", &["accepted", "TornRecord", "Tables"]),
+    ("setup", &["accepted", "Settings", "Words", "Tables"]),
+    ("restart", &["accepted", "Words", "TornRecord", "Tables"]),
     (
         "refer",
         &[
             "Skipped",
             "Again",
             "First",
+            "Words",
             "TornRecord",
             "Tables",
             "Full",
@@ -25,16 +30,66 @@ pub const WANTED: &[(&str, &[&str])] = &[
     ("point", POINT),
     ("plot", POINT),
     (
+        "apply",
+        &[
+            "kind 1",
+            "kind 2",
+            "length 0",
+            "kind 3",
+            "kind 4",
+            "Words",
+            "empty",
+            "Kind",
+            "Short",
+            "Settings",
+            "TornRecord",
+            "Tables",
+            "Full",
+            "TornBucket",
+        ],
+    ),
+    (
+        "feed",
+        &[
+            "empty",
+            "whole",
+            "incomplete at once",
+            "incomplete later",
+            "Words",
+            "Words, empty",
+            "Kind at once",
+            "Kind later",
+            "Settings at once",
+            "Settings later",
+            "TornRecord at once",
+            "TornRecord later",
+            "Tables at once",
+            "Tables later",
+            "Full at once",
+            "Full later",
+            "TornBucket at once",
+            "TornBucket later",
+        ],
+    ),
+    (
         "read",
         &[
             "kind 1", "kind 2", "kind 3", "kind 4", "empty", "Short", "Kind",
         ],
     ),
     ("write", &["kind 1", "kind 2", "kind 3", "kind 4", "Tables"]),
+    (
+        "words lent",
+        &[
+            "0", "1", "2", "3", "4", "5", "6", "7", "8", "9", "10", "11", "12", "13", "14", "15",
+            "16", "17", "18",
+        ],
+    ),
 ];
 
 const POINT: &[&str] = &[
     "accepted",
+    "Words",
     "TornRecord",
     "Tables",
     "Stale",
@@ -44,216 +99,6 @@ const POINT: &[&str] = &[
     "Empty",
 ];
 
-pub fn some_settings(random: &mut Random) -> Settings {
-    let large = random.one_in(50);
-    let start = match random.below(4) {
-        0 => random.between(1, 16),
-        1 => random.between(1, P),
-        _ => P,
-    };
-    let width = match random.below(4) {
-        0 => random.between(1, MOST_REFERENCES),
-        1 => random.between(1, 1 << 20),
-        _ => random.between(1, 3),
-    };
-    Settings {
-        limit: random.between(1, if large { 8192 } else { 6 }),
-        start,
-        width,
-        buckets: random.between(1, if large { 10_000 } else { 6 }),
-        kind: random.below(2),
-    }
-}
-
-fn some_record(random: &mut Random) -> Record {
-    let settings = some_settings(random);
-    let references = match random.below(5) {
-        0 => random.between(MOST_REFERENCES - 1, MOST_REFERENCES),
-        1 => random.between(0, MOST_REFERENCES),
-        _ => random.between(0, 40),
-    };
-    let threshold = match random.below(4) {
-        0 => random.between(0, settings.start),
-        1 => random.between(0, settings.start.min(16)),
-        _ => settings.start,
-    };
-    Record {
-        settings,
-        threshold,
-        live: random.between(0, settings.limit),
-        references,
-        sampled: random.between(0, references),
-    }
-}
-
-/// A location whose hash of kind 0 is often small, so that repeats and samples occur.
-fn some_location(random: &mut Random) -> u64 {
-    match random.below(6) {
-        0 => random.any(),
-        1 => random.below(12) + P * random.below(4),
-        _ => random.below(12),
-    }
-}
-
-/// A record with tables that fit it, and random contents that are not torn.
-pub fn some_tracker(random: &mut Random) -> Tracker {
-    let record = some_record(random);
-    let needed = record.settings.buckets + 2;
-    let locations = (0..record.settings.limit + random.below(4))
-        .map(|_| some_location(random))
-        .collect();
-    let mut left = 256 * record.references;
-    let counts = (0..needed + random.below(3))
-        .map(|_| {
-            let count = if random.one_in(2) {
-                random.between(0, left / 2)
-            } else {
-                0
-            };
-            left -= count;
-            count
-        })
-        .collect();
-    let lowest = record.threshold.max(1);
-    let thresholds = (0..needed + random.below(3))
-        .map(|_| match random.below(3) {
-            0 => lowest as u32,
-            1 => random.between(lowest, P) as u32,
-            _ => record.settings.start.max(lowest) as u32,
-        })
-        .collect();
-    Tracker {
-        record,
-        locations,
-        counts,
-        thresholds,
-    }
-}
-
-/// A number near some limit.
-fn edge(random: &mut Random, record: Record) -> u64 {
-    let settings = record.settings;
-    let near = [
-        0,
-        8192,
-        P,
-        10_000,
-        MOST_REFERENCES,
-        u64::MAX,
-        1 << 63,
-        1 << 32,
-        256,
-        settings.limit,
-        settings.start,
-        settings.buckets,
-        settings.width,
-        record.threshold,
-        record.references,
-        record.references.wrapping_mul(256),
-    ];
-    let at = random.pick(&near);
-    match random.below(4) {
-        0 => at.wrapping_add(1),
-        1 => at.wrapping_sub(1),
-        2 => random.any(),
-        _ => at,
-    }
-}
-
-pub fn damage_word(random: &mut Random, record: &mut Record) {
-    let number = edge(random, *record);
-    match random.below(9) {
-        0 => record.settings.limit = number,
-        1 => record.settings.start = number,
-        2 => record.settings.width = number,
-        3 => record.settings.buckets = number,
-        4 => record.settings.kind = number,
-        5 => record.threshold = number,
-        6 => record.live = number,
-        7 => record.references = number,
-        _ => record.sampled = number,
-    }
-}
-
-fn damage_length(random: &mut Random, tracker: &mut Tracker) {
-    let settings = tracker.record.settings;
-    let shorter = |needed: u64, random: &mut Random| match random.below(4) {
-        0 => 0,
-        1 => random.below(needed.clamp(1, 20_000)) as usize,
-        2 => needed.min(20_000) as usize,
-        _ => needed.saturating_sub(1).min(20_000) as usize,
-    };
-    let needed = settings.buckets.saturating_add(2);
-    match random.below(3) {
-        0 => tracker.locations.truncate(shorter(settings.limit, random)),
-        1 => tracker.counts.truncate(shorter(needed, random)),
-        _ => tracker.thresholds.truncate(shorter(needed, random)),
-    }
-}
-
-fn damage_bucket(random: &mut Random, tracker: &mut Tracker) {
-    let number = edge(random, tracker.record);
-    let most = tracker.record.references.wrapping_mul(256);
-    match random.below(5) {
-        0 if !tracker.counts.is_empty() => {
-            let at = random.below(tracker.counts.len() as u64) as usize;
-            tracker.counts[at] = number;
-        }
-        4 => {
-            let above = most.wrapping_add(random.below(258));
-            tracker.counts.fill(above);
-        }
-        1 if tracker.counts.len() > 1 => {
-            let at = random.below(tracker.counts.len() as u64 - 1) as usize;
-            tracker.counts[at] = most;
-            tracker.counts[at + 1] = random.below(3);
-        }
-        2 if !tracker.thresholds.is_empty() => {
-            let at = random.below(tracker.thresholds.len() as u64) as usize;
-            tracker.thresholds[at] = number as u32;
-        }
-        _ if !tracker.thresholds.is_empty() => {
-            let at = random.below(tracker.thresholds.len() as u64) as usize;
-            tracker.thresholds[at] = 0;
-        }
-        _ => {}
-    }
-}
-
-fn damaged_tracker(random: &mut Random) -> Tracker {
-    let mut tracker = some_tracker(random);
-    for _ in 0..random.below(4).saturating_sub(1) {
-        match random.below(3) {
-            0 => damage_word(random, &mut tracker.record),
-            1 => damage_length(random, &mut tracker),
-            _ => damage_bucket(random, &mut tracker),
-        }
-    }
-    tracker
-}
-
-fn given_settings(random: &mut Random) -> Settings {
-    let mut record = some_record(random);
-    if random.one_in(2) {
-        damage_word(random, &mut record);
-    }
-    with_zeros(random, record.settings)
-}
-
-/// The settings, sometimes with zeros for defaults.
-pub fn with_zeros(random: &mut Random, mut given: Settings) -> Settings {
-    let zero = |random: &mut Random, number: &mut u64| {
-        if random.one_in(8) {
-            *number = 0;
-        }
-    };
-    zero(random, &mut given.limit);
-    zero(random, &mut given.start);
-    zero(random, &mut given.width);
-    zero(random, &mut given.buckets);
-    given
-}
-
 fn name<T>(answer: &Result<T, Refusal>) -> String {
     match answer {
         Ok(_) => "accepted".to_string(),
@@ -261,22 +106,21 @@ fn name<T>(answer: &Result<T, Refusal>) -> String {
     }
 }
 
-pub fn same_number(got: u64, expected: u64) -> Result<(), String> {
+/// Whether a call returned what it must, in every field.
+pub fn same<T: PartialEq + Debug>(got: T, expected: T) -> Result<(), String> {
     if got == expected {
         Ok(())
     } else {
-        Err(format!("answered {got}, the model {expected}"))
+        Err(format!("gave {got:?}, the model {expected:?}"))
     }
 }
 
-fn same_values<T: Copy + PartialEq + std::fmt::Debug>(
-    got: &Lent<T>,
-    expected: &[T],
-) -> Result<(), String> {
+/// Whether bytes that were lent are these.
+pub fn same_bytes(got: &Lent<u8>, expected: &[u8]) -> Result<(), String> {
     if got.holds(expected) {
         Ok(())
     } else {
-        Err(format!("gave {:?}, the model {expected:?}", got.inside()))
+        Err(format!("left {:?}, the model {expected:?}", got.inside()))
     }
 }
 
@@ -288,9 +132,9 @@ pub fn check_setup(
     tally: &mut Tally,
 ) -> Result<(), String> {
     let expected = model.setup(given, tracker);
-    let number = driver.setup(given);
+    let refusal = driver.setup(given);
     tally.count("setup", &name(&expected));
-    same_number(number, number_of(&expected))?;
+    same(refusal, number_of(&expected))?;
     driver.compare(tracker)
 }
 
@@ -301,9 +145,9 @@ pub fn check_restart(
     tally: &mut Tally,
 ) -> Result<(), String> {
     let expected = model.restart(tracker);
-    let number = driver.restart();
+    let refusal = driver.restart();
     tally.count("restart", &name(&expected));
-    same_number(number, number_of(&expected))?;
+    same(refusal, number_of(&expected))?;
     driver.compare(tracker)
 }
 
@@ -315,7 +159,7 @@ pub fn check_refer(
     tally: &mut Tally,
 ) -> Result<(), String> {
     let expected = model.refer(tracker, location);
-    let said = driver.refer(location);
+    let given = driver.refer(location);
     let answer = match expected {
         Ok(Reply::Skipped) => "Skipped".to_string(),
         Ok(Reply::Again(_)) => "Again".to_string(),
@@ -323,9 +167,7 @@ pub fn check_refer(
         Err(_) => name(&expected),
     };
     tally.count("refer", &answer);
-    same_number(said.number, number_of(&expected))?;
-    let values = expected.map_or(driver::untouched(), driver::reply_words);
-    same_values(&said.values, &values)?;
+    same(given, driver::answered(&expected))?;
     driver.compare(tracker)
 }
 
@@ -338,14 +180,13 @@ pub fn check_point(
     tally: &mut Tally,
 ) -> Result<(), String> {
     let expected = model.point(tracker, believed, number);
-    let said = driver.point(believed, number);
+    let given = driver.point(believed, number);
     tally.count("point", &name(&expected));
-    same_number(said.number, number_of(&expected))?;
-    let values = expected.map_or(driver::untouched(), |p| [p.size, p.hits, p.misses, p.total]);
-    same_values(&said.values, &values)?;
+    same(given, driver::pointed(&expected))?;
     driver.compare(tracker)
 }
 
+/// Doubles are compared by their bits too.
 pub fn check_plot(
     model: &Model,
     tracker: &mut Tracker,
@@ -355,49 +196,70 @@ pub fn check_plot(
     tally: &mut Tally,
 ) -> Result<(), String> {
     let expected = model.plot(tracker, believed, number);
-    let said = driver.plot(believed, number);
+    let given = driver.plot(believed, number);
     tally.count("plot", &name(&expected));
-    same_number(said.number, number_of(&expected))?;
-    let values = expected.map_or(driver::untouched_pair(), |(size, ratio)| [size, ratio]);
-    same_values(&said.values, &values)?;
-    let bits = |pair: &[f64]| [pair[0].to_bits(), pair[1].to_bits()];
-    if bits(said.values.inside()) != bits(&values) {
-        return Err("the doubles are equal and differ in their bits".to_string());
-    }
+    let wanted = driver::plotted(&expected);
+    same(given, wanted)?;
+    same(given.size.to_bits(), wanted.size.to_bits())?;
+    same(given.ratio.to_bits(), wanted.ratio.to_bits())?;
     driver.compare(tracker)
 }
 
-fn some_shape(random: &mut Random, record: Record) -> Shape {
-    let mut shape = Shape {
-        buckets: record.settings.buckets,
-        width: record.settings.width,
+/// Applies the first event of the bytes, which must not change.
+pub fn check_apply(
+    model: &Model,
+    tracker: &mut Tracker,
+    driver: &mut Driver,
+    bytes: &[u8],
+    tally: &mut Tally,
+) -> Result<(), String> {
+    let expected = model.apply_first(tracker, bytes);
+    let lent = lent_bytes(bytes);
+    let given = driver.apply(&lent);
+    let answer = match expected {
+        Ok(_) if bytes[0] == 2 && bytes[9..13] == [0; 4] => "length 0".to_string(),
+        Ok(_) => format!("kind {}", bytes[0]),
+        Err(Refusal::Short) if bytes.is_empty() => "empty".to_string(),
+        Err(_) => name(&expected),
     };
-    match random.below(8) {
-        0 => shape.buckets = edge(random, record),
-        1 => shape.width = edge(random, record),
-        _ => {}
-    }
-    shape
+    tally.count("apply", &answer);
+    let case = |error: String| format!("{error}; bytes {bytes:?}");
+    same(given, driver::applied(&expected)).map_err(case)?;
+    same_bytes(&lent, bytes)?;
+    driver.compare(tracker).map_err(case)
 }
 
-fn some_number(random: &mut Random, record: Record) -> u64 {
-    let buckets = record.settings.buckets;
-    match random.below(5) {
-        0 => edge(random, record),
-        1 => buckets,
-        2 => buckets.wrapping_add(1),
-        _ => random.below(buckets.clamp(1, 1 << 20)),
-    }
+/// Feeds the bytes, which must not change, and returns what the library gave.
+pub fn check_feed(
+    model: &Model,
+    tracker: &mut Tracker,
+    driver: &mut Driver,
+    bytes: &[u8],
+    tally: &mut Tally,
+) -> Result<CFed, String> {
+    let expected = model.feed(tracker, bytes);
+    let lent = lent_bytes(bytes);
+    let given = driver.feed(&lent);
+    tally.count("feed", &feed_name(&expected, bytes));
+    let case = |error: String| format!("{error}; bytes {bytes:?}");
+    same(given, driver::fed(&expected)).map_err(case)?;
+    same_bytes(&lent, bytes)?;
+    driver.compare(tracker).map_err(case)?;
+    Ok(given)
 }
 
-/// A location of the table, or another.
-pub fn some_reference(random: &mut Random, tracker: &Tracker) -> u64 {
-    let entries = tracker.locations.len() as u64;
-    if entries > 0 && random.one_in(2) {
-        tracker.locations[random.below(entries) as usize]
-    } else {
-        some_location(random)
-    }
+/// How feeding ended, and whether at once or after some events.
+fn feed_name(fed: &Fed, bytes: &[u8]) -> String {
+    let ending = match fed.ending {
+        Ok(false) if bytes.is_empty() => return "empty".to_string(),
+        Ok(false) => return "whole".to_string(),
+        Err(Refusal::Words) if bytes.is_empty() => return "Words, empty".to_string(),
+        Err(Refusal::Words) => return "Words".to_string(),
+        Ok(true) => "incomplete".to_string(),
+        Err(_) => name(&fed.ending),
+    };
+    let place = if fed.taken == 0 { "at once" } else { "later" };
+    format!("{ending} {place}")
 }
 
 /// One call on a tracker of its own.
@@ -405,7 +267,8 @@ fn one_call(model: &Model, random: &mut Random, tally: &mut Tally) -> Result<(),
     let mut tracker = damaged_tracker(random);
     let mut driver = Driver::holding(&tracker);
     let record = tracker.record;
-    match random.below(9) {
+    tally.note("words lent", &driver.record.inside().len().to_string());
+    match random.below(12) {
         0 => {
             let given = given_settings(random);
             check_setup(model, &mut tracker, &mut driver, given, tally)
@@ -422,6 +285,14 @@ fn one_call(model: &Model, random: &mut Random, tally: &mut Tally) -> Result<(),
         4 => check_read(model, random, tally),
         5 => check_write(model, random, tally),
         6 => check_hash(model, random, tally),
+        7 => {
+            let bytes = first_event(random, &tracker);
+            check_apply(model, &mut tracker, &mut driver, &bytes, tally)
+        }
+        8 | 9 => {
+            let bytes = some_trace(random, &tracker, 5);
+            check_feed(model, &mut tracker, &mut driver, &bytes, tally).map(|_| ())
+        }
         _ => {
             let location = some_reference(random, &tracker);
             check_refer(model, &mut tracker, &mut driver, location, tally)
@@ -432,20 +303,8 @@ fn one_call(model: &Model, random: &mut Random, tally: &mut Tally) -> Result<(),
 fn check_hash(model: &Model, random: &mut Random, tally: &mut Tally) -> Result<(), String> {
     let (kind, location) = (random.below(3), random.any());
     tally.count("hash", &format!("kind {kind}"));
-    same_number(driver::hash(kind, location), model.hash(kind, location))
+    same(driver::hash(kind, location), model.hash(kind, location))
         .map_err(|error| format!("{error}; kind {kind} of {location}"))
-}
-
-pub fn some_event(random: &mut Random) -> Event {
-    match random.below(4) {
-        0 => Event::Location(random.any()),
-        1 => Event::Span(random.any(), random.any() as u32),
-        2 => Event::Restart,
-        _ => {
-            let mut word = || random.any() as u32;
-            Event::Setup(word(), word(), word(), word(), word() as u8)
-        }
-    }
 }
 
 fn kind_of(event: Event) -> String {
@@ -459,36 +318,31 @@ fn check_read(model: &Model, random: &mut Random, tally: &mut Tally) -> Result<(
         1 => bytes[0] = random.any() as u8,
         _ => bytes.extend(some_event(random).bytes()),
     }
-    let mut lent = Lent::new(&bytes, 0xa5);
+    let lent = lent_bytes(&bytes);
     let expected = model.read(&bytes);
-    let said = driver::read(&mut lent);
+    let given = driver::read(&lent);
     let answer = match expected {
         Ok((event, _)) => kind_of(event),
         Err(_) if bytes.is_empty() => "empty".to_string(),
         Err(_) => name(&expected),
     };
     tally.count("read", &answer);
-    let case = |error: String| format!("{error}; bytes {bytes:?}");
-    same_number(said.number, number_of(&expected)).map_err(case)?;
-    let values = expected.map_or(driver::untouched(), |(event, taken)| {
-        driver::event_words(event, taken)
-    });
-    same_values(&said.values, &values).map_err(case)?;
-    same_values(&lent, &bytes)
+    same(given, driver::got(&expected)).map_err(|error| format!("{error}; bytes {bytes:?}"))?;
+    same_bytes(&lent, &bytes)
 }
 
 fn check_write(model: &Model, random: &mut Random, tally: &mut Tally) -> Result<(), String> {
     let event = some_event(random);
     let length = random.below(24) as usize;
     let mut buffer: Vec<u8> = (0..length).map(|_| random.any() as u8).collect();
-    let mut lent = Lent::new(&buffer, 0xa5);
+    let mut lent = lent_bytes(&buffer);
     let expected = model.write(event, &mut buffer);
-    let number = driver::write(event, &mut lent);
+    let given = driver::write(event, &mut lent);
     let answer = expected.map_or_else(|_| name(&expected), |_| kind_of(event));
     tally.count("write", &answer);
     let case = |error: String| format!("{error}; {event:?} into {length} bytes");
-    same_number(number, number_of(&expected)).map_err(case)?;
-    same_values(&lent, &buffer).map_err(case)
+    same(given, driver::written(&expected)).map_err(case)?;
+    same_bytes(&lent, &buffer).map_err(case)
 }
 
 /// Calls, each on a tracker of its own.

@@ -1,7 +1,8 @@
 //! The twelve cases of document 01's bench table, run on the program or the library. The expected answers are the document's own.
 
-use crate::driver::{self, Driver, Lent};
-use crate::model::{Event, Record, Settings, Shape, Tracker, P};
+use crate::driver::{self, lent_bytes, Driver};
+use crate::interface::{CAnswer, CEvent, VERSION};
+use crate::model::{Event, Settings, Shape, Tracker, P};
 use crate::program::printed;
 use crate::published;
 use crate::random::Random;
@@ -27,18 +28,7 @@ fn is<T: PartialEq + std::fmt::Debug>(what: &str, got: T, expected: T) -> Result
 fn set_up(given: Settings) -> Result<Driver, String> {
     let settings = given.with_defaults();
     let needed = settings.buckets as usize + 2;
-    let mut driver = Driver::holding(&Tracker {
-        record: Record {
-            settings: given,
-            threshold: 0,
-            live: 0,
-            references: 0,
-            sampled: 0,
-        },
-        locations: vec![0; settings.limit as usize],
-        counts: vec![0; needed],
-        thresholds: vec![0; needed],
-    });
+    let mut driver = Driver::holding(&Tracker::blank(settings.limit as usize, needed, needed));
     is("setup", driver.setup(given), 0)?;
     Ok(driver)
 }
@@ -55,7 +45,7 @@ fn settings(limit: u64, start: u64, width: u64, buckets: u64, kind: u64) -> Sett
 
 fn refer_all(driver: &mut Driver, locations: &[u64]) -> Result<(), String> {
     for location in locations {
-        is("reference", driver.refer(*location).number, 0)?;
+        is("reference", driver.refer(*location).refusal, 0)?;
     }
     Ok(())
 }
@@ -109,8 +99,12 @@ fn d() -> Result<(), String> {
 fn e() -> Result<(), String> {
     let mut driver = set_up(settings(0, 1_677_721, 0, 0, 0))?;
     refer_all(&mut driver, &[1, 2, 3, 4])?;
-    let said = driver.refer(1);
-    is("Again with D", said.values.inside().to_vec(), vec![1, 3])?;
+    let again = CAnswer {
+        refusal: 0,
+        reply: 1,
+        distance: 3,
+    };
+    is("Again with D", driver.refer(1), again)?;
     let mut expected = vec![0; 258];
     expected[30] = 256;
     expected[257] = 1024;
@@ -130,9 +124,9 @@ fn f() -> Result<(), String> {
         buckets: 2,
         width: 1,
     };
-    let said = driver.point(shape, 1);
-    is("point", said.number, 0)?;
-    is("hits at 1", said.values.inside()[1], 146)
+    let point = driver.point(shape, 1);
+    is("point", point.refusal, 0)?;
+    is("hits at 1", point.hits, 146)
 }
 
 fn g() -> Result<(), String> {
@@ -142,25 +136,14 @@ fn g() -> Result<(), String> {
         buckets: 4,
         width: 1,
     };
-    is("point 4", driver.point(shape, 4).number, 0)?;
-    is("point 5", driver.point(shape, 5).number, 6)
+    is("point 4", driver.point(shape, 4).refusal, 0)?;
+    is("point 5", driver.point(shape, 5).refusal, 6)
 }
 
 fn h() -> Result<(), String> {
     let mut driver = set_up(settings(8192, 0, 0, 0, 0))?;
     is("S 8,192", driver.setup(settings(8192, 0, 0, 0, 0)), 0)?;
-    let long = Tracker {
-        record: Record {
-            settings: settings(1, 1, 1, 1, 0),
-            threshold: 0,
-            live: 0,
-            references: 0,
-            sampled: 0,
-        },
-        locations: vec![0; 8193],
-        counts: vec![0; 258],
-        thresholds: vec![0; 258],
-    };
+    let long = Tracker::blank(8193, 258, 258);
     let mut driver = Driver::holding(&long);
     is("S 8,193", driver.setup(settings(8193, 0, 0, 0, 0)), 1)?;
     driver.compare(&long)
@@ -176,17 +159,16 @@ fn i() -> Result<(), String> {
 
 fn j() -> Result<(), String> {
     same(&printed(&[0])?, "refused 8 at 0\n")?;
-    is("read", driver::read(&mut Lent::new(&[0], 1)).number, 8)
+    is("read", driver::read(&lent_bytes(&[0])).refusal, 8)
 }
 
 fn k() -> Result<(), String> {
-    let said = driver::read(&mut Lent::new(&[3], 1));
-    is("read", said.number, 0)?;
-    is(
-        "event",
-        said.values.inside().to_vec(),
-        vec![3, 1, 0, 0, 0, 0, 0],
-    )?;
+    let restart = CEvent {
+        kind: 3,
+        taken: 1,
+        ..CEvent::default()
+    };
+    is("read", driver::read(&lent_bytes(&[3])), restart)?;
     let expected = "curve refs 0 sampled 0 threshold 1677721 live 0\nempty\n";
     same(&printed(&[3])?, expected)
 }
@@ -194,7 +176,7 @@ fn k() -> Result<(), String> {
 fn l() -> Result<(), String> {
     let bytes = [1, 2, 3, 4, 5, 6, 7, 8];
     same(&printed(&bytes)?, "refused 7 at 0\n")?;
-    is("read", driver::read(&mut Lent::new(&bytes, 1)).number, 7)
+    is("read", driver::read(&lent_bytes(&bytes)).refusal, 7)
 }
 
 /// The library's threshold after references to L and to 0, with S 1, T0 P and hash kind 1, is the published hash of L.
@@ -216,6 +198,15 @@ pub fn published_hash(seed: u64, locations: u64) -> Result<u64, String> {
         tried += 1;
     }
     Ok(tried)
+}
+
+/// The version of the library is that of rockgingham.rs and of the header.
+pub fn version() -> Result<u64, String> {
+    is("version", driver::version(), VERSION)?;
+    let defined = format!("\n#define ROCKGINGHAM_VERSION {VERSION}\n");
+    let header = include_str!("../../include/rockgingham.h");
+    is("the header's version", header.contains(&defined), true)?;
+    Ok(VERSION)
 }
 
 type Case = (char, fn() -> Result<(), String>);

@@ -1,12 +1,11 @@
 //! The static library, called as C calls it. Everything lent to it lies between guard entries, which are compared too.
 
 use crate::interface::*;
-use crate::model::{Event, Record, Refusal, Reply, Settings, Shape, Tracker};
+use crate::model::{Event, Fed, Point, Record, Refusal, Reply, Settings, Shape, Tracker};
 
 const GUARDS: usize = 4;
 
 /// Entries between guards.
-#[derive(Clone)]
 pub struct Lent<T> {
     all: Vec<T>,
     guard: T,
@@ -44,7 +43,8 @@ impl<T: Copy + PartialEq> Lent<T> {
     }
 }
 
-pub fn words_of(record: Record) -> [u64; 9] {
+/// A record's words, in the header's order.
+fn words_of(record: Record) -> [u64; RECORD_WORDS] {
     let settings = record.settings;
     [
         settings.limit,
@@ -59,6 +59,13 @@ pub fn words_of(record: Record) -> [u64; 9] {
     ]
 }
 
+/// The words that are lent: of the record as many as the tracker says, then those beyond.
+fn lent_words(tracker: &Tracker) -> Vec<u64> {
+    let own = words_of(tracker.record);
+    assert!(tracker.words == own.len() || tracker.beyond.is_empty());
+    [&own[..tracker.words], &tracker.beyond].concat()
+}
+
 /// A record and its tables, lent to the library.
 pub struct Driver {
     pub record: Lent<u64>,
@@ -68,27 +75,11 @@ pub struct Driver {
 }
 
 const GUARD: u64 = 0x5bd1_e995_1234_5678;
-const OUTPUT: u64 = 0x0dd0_dead_beef_0bad;
-
-/// What a call returned: the number, and the whole array for its values.
-pub struct Said<T> {
-    pub number: u64,
-    pub values: Lent<T>,
-}
-
-/// The contents of an array for values before a call.
-pub fn untouched<const N: usize>() -> [u64; N] {
-    [OUTPUT; N]
-}
-
-pub fn untouched_pair() -> [f64; 2] {
-    [-123.5, 456.25]
-}
 
 impl Driver {
     pub fn holding(tracker: &Tracker) -> Driver {
         Driver {
-            record: Lent::new(&words_of(tracker.record), GUARD),
+            record: Lent::new(&lent_words(tracker), GUARD),
             locations: Lent::new(&tracker.locations, GUARD),
             counts: Lent::new(&tracker.counts, GUARD),
             thresholds: Lent::new(&tracker.thresholds, GUARD as u32),
@@ -101,7 +92,7 @@ impl Driver {
 
     /// What differs from the model's record and tables, if anything does.
     pub fn compare(&self, tracker: &Tracker) -> Result<(), String> {
-        let words = words_of(tracker.record);
+        let words = lent_words(tracker);
         if !self.record.holds(&words) {
             return Err(format!(
                 "record {:?}, model {words:?}",
@@ -120,19 +111,23 @@ impl Driver {
         Ok(())
     }
 
-    // Each call below lends arrays of the lengths that the header gives and tables with their true lengths. None of them overlap.
+    // Each call below lends the record, the tables and the bytes with their true lengths. None of them overlap.
 
     pub fn setup(&mut self, given: Settings) -> u64 {
-        let settings = CSettings {
+        self.setup_with(CSettings {
             limit: given.limit,
             start: given.start,
             width: given.width,
             buckets: given.buckets,
             hash_kind: given.kind,
-        };
+        })
+    }
+
+    pub fn setup_with(&mut self, settings: CSettings) -> u64 {
         unsafe {
             rockgingham_setup(
                 self.record.pointer(),
+                self.record.length(),
                 settings,
                 self.locations.start(),
                 self.locations.length(),
@@ -148,6 +143,7 @@ impl Driver {
         unsafe {
             rockgingham_restart(
                 self.record.pointer(),
+                self.record.length(),
                 self.locations.start(),
                 self.locations.length(),
                 self.counts.pointer(),
@@ -158,12 +154,11 @@ impl Driver {
         }
     }
 
-    pub fn refer(&mut self, location: u64) -> Said<u64> {
-        let mut values = Lent::new(&untouched::<2>(), GUARD);
-        let number = unsafe {
+    pub fn refer(&mut self, location: u64) -> CAnswer {
+        unsafe {
             rockgingham_refer(
                 self.record.pointer(),
-                values.pointer(),
+                self.record.length(),
                 location,
                 self.locations.pointer(),
                 self.locations.length(),
@@ -172,16 +167,14 @@ impl Driver {
                 self.thresholds.pointer(),
                 self.thresholds.length(),
             )
-        };
-        Said { number, values }
+        }
     }
 
-    pub fn point(&mut self, believed: Shape, number: u64) -> Said<u64> {
-        let mut values = Lent::new(&untouched::<4>(), GUARD);
-        let number = unsafe {
+    pub fn point(&self, believed: Shape, number: u64) -> CPoint {
+        unsafe {
             rockgingham_point(
                 self.record.start(),
-                values.pointer(),
+                self.record.length(),
                 shape_of(believed),
                 number,
                 self.counts.start(),
@@ -189,16 +182,14 @@ impl Driver {
                 self.thresholds.start(),
                 self.thresholds.length(),
             )
-        };
-        Said { number, values }
+        }
     }
 
-    pub fn plot(&mut self, believed: Shape, number: u64) -> Said<f64> {
-        let mut values = Lent::new(&untouched_pair(), 7.0);
-        let number = unsafe {
+    pub fn plot(&self, believed: Shape, number: u64) -> CPlot {
+        unsafe {
             rockgingham_plot(
                 self.record.start(),
-                values.pointer(),
+                self.record.length(),
                 shape_of(believed),
                 number,
                 self.counts.start(),
@@ -206,8 +197,41 @@ impl Driver {
                 self.thresholds.start(),
                 self.thresholds.length(),
             )
-        };
-        Said { number, values }
+        }
+    }
+
+    pub fn apply(&mut self, bytes: &Lent<u8>) -> CApplied {
+        unsafe {
+            rockgingham_apply(
+                self.record.pointer(),
+                self.record.length(),
+                bytes.start(),
+                bytes.length(),
+                self.locations.pointer(),
+                self.locations.length(),
+                self.counts.pointer(),
+                self.counts.length(),
+                self.thresholds.pointer(),
+                self.thresholds.length(),
+            )
+        }
+    }
+
+    pub fn feed(&mut self, bytes: &Lent<u8>) -> CFed {
+        unsafe {
+            rockgingham_feed(
+                self.record.pointer(),
+                self.record.length(),
+                bytes.start(),
+                bytes.length(),
+                self.locations.pointer(),
+                self.locations.length(),
+                self.counts.pointer(),
+                self.counts.length(),
+                self.thresholds.pointer(),
+                self.thresholds.length(),
+            )
+        }
     }
 }
 
@@ -218,17 +242,24 @@ fn shape_of(believed: Shape) -> CShape {
     }
 }
 
+/// Bytes to be lent.
+pub fn lent_bytes(bytes: &[u8]) -> Lent<u8> {
+    Lent::new(bytes, 0xa5)
+}
+
+pub fn version() -> u64 {
+    unsafe { rockgingham_version() }
+}
+
 pub fn hash(kind: u64, location: u64) -> u64 {
     unsafe { rockgingham_hash(kind, location) }
 }
 
-pub fn read(bytes: &mut Lent<u8>) -> Said<u64> {
-    let mut values = Lent::new(&untouched::<7>(), GUARD);
-    let number = unsafe { rockgingham_read(values.pointer(), bytes.start(), bytes.length()) };
-    Said { number, values }
+pub fn read(bytes: &Lent<u8>) -> CEvent {
+    unsafe { rockgingham_read(bytes.start(), bytes.length()) }
 }
 
-pub fn write(event: Event, buffer: &mut Lent<u8>) -> u64 {
+pub fn write(event: Event, buffer: &mut Lent<u8>) -> CWritten {
     let (start, length) = (buffer.pointer(), buffer.length());
     unsafe {
         match event {
@@ -242,38 +273,111 @@ pub fn write(event: Event, buffer: &mut Lent<u8>) -> u64 {
     }
 }
 
-/// The header's words for a reply.
-pub fn reply_words(reply: Reply) -> [u64; 2] {
-    match reply {
-        Reply::Skipped => [0, 0],
-        Reply::Again(place) => [1, place],
-        Reply::First => [2, 0],
-    }
-}
+// What a call must return, all of it, for the model's answer. A refused call gives zeros beside the refusal.
 
-/// The header's words for an event that was read.
-pub fn event_words(event: Event, taken: usize) -> [u64; 7] {
-    let taken = taken as u64;
-    match event {
-        Event::Location(location) => [1, taken, location, 0, 0, 0, 0],
-        Event::Span(offset, length) => [2, taken, offset, length.into(), 0, 0, 0],
-        Event::Restart => [3, taken, 0, 0, 0, 0, 0],
-        Event::Setup(limit, start, width, buckets, kind) => [
-            4,
-            taken,
-            limit.into(),
-            start.into(),
-            width.into(),
-            buckets.into(),
-            kind.into(),
-        ],
-    }
-}
-
-/// The number that a call must return.
+/// The refusal that a call must give.
 pub fn number_of<T>(answer: &Result<T, Refusal>) -> u64 {
     match answer {
         Ok(_) => 0,
         Err(refusal) => refusal.number(),
+    }
+}
+
+pub fn answered(answer: &Result<Reply, Refusal>) -> CAnswer {
+    let refusal = number_of(answer);
+    let (reply, distance) = match answer {
+        Ok(Reply::Skipped) | Err(_) => (0, 0),
+        Ok(Reply::Again(place)) => (1, *place),
+        Ok(Reply::First) => (2, 0),
+    };
+    CAnswer {
+        refusal,
+        reply,
+        distance,
+    }
+}
+
+pub fn pointed(answer: &Result<Point, Refusal>) -> CPoint {
+    let zero = Point {
+        size: 0,
+        hits: 0,
+        misses: 0,
+        total: 0,
+    };
+    let point = answer.unwrap_or(zero);
+    CPoint {
+        refusal: number_of(answer),
+        size: point.size,
+        hits: point.hits,
+        misses: point.misses,
+        total: point.total,
+    }
+}
+
+pub fn plotted(answer: &Result<(f64, f64), Refusal>) -> CPlot {
+    let (size, ratio) = answer.unwrap_or((0.0, 0.0));
+    CPlot {
+        refusal: number_of(answer),
+        size,
+        ratio,
+    }
+}
+
+pub fn applied(answer: &Result<usize, Refusal>) -> CApplied {
+    CApplied {
+        refusal: number_of(answer),
+        taken: answer.unwrap_or(0) as u64,
+    }
+}
+
+pub fn fed(answer: &Fed) -> CFed {
+    CFed {
+        refusal: number_of(&answer.ending),
+        taken: answer.taken as u64,
+        incomplete: u64::from(answer.ending == Ok(true)),
+    }
+}
+
+pub fn written(answer: &Result<usize, Refusal>) -> CWritten {
+    CWritten {
+        refusal: number_of(answer),
+        length: answer.unwrap_or(0) as u64,
+    }
+}
+
+pub fn got(answer: &Result<(Event, usize), Refusal>) -> CEvent {
+    let mut given = CEvent {
+        refusal: number_of(answer),
+        ..CEvent::default()
+    };
+    if let Ok((event, taken)) = *answer {
+        given.taken = taken as u64;
+        put_event(event, &mut given);
+    }
+    given
+}
+
+fn put_event(event: Event, given: &mut CEvent) {
+    match event {
+        Event::Location(location) => {
+            given.kind = 1;
+            given.location = location;
+        }
+        Event::Span(offset, length) => {
+            given.kind = 2;
+            given.offset = offset;
+            given.length = length.into();
+        }
+        Event::Restart => given.kind = 3,
+        Event::Setup(limit, start, width, buckets, kind) => {
+            given.kind = 4;
+            given.settings = CSettings {
+                limit: limit.into(),
+                start: start.into(),
+                width: width.into(),
+                buckets: buckets.into(),
+                hash_kind: kind.into(),
+            };
+        }
     }
 }

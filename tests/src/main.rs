@@ -6,6 +6,8 @@
 mod calls;
 mod cases;
 mod driver;
+mod events;
+mod feeding;
 #[path = "../../include/rockgingham.rs"]
 mod interface;
 mod lru;
@@ -18,6 +20,7 @@ mod runs;
 mod states;
 mod tally;
 mod traces;
+mod trackers;
 
 use model::{Model, Wrong, ALL_WRONG};
 use tally::Tally;
@@ -25,6 +28,7 @@ use tally::Tally;
 /// How much is tried. Each test prints its size.
 struct Sizes {
     damaged_calls: u64,
+    fed_traces: u64,
     ordered_states: u64,
     ordered_inputs: u64,
     random_inputs: u64,
@@ -33,7 +37,8 @@ struct Sizes {
 
 const NATIVE: Sizes = Sizes {
     damaged_calls: 1_000_000,
-    ordered_states: 5000,
+    fed_traces: 50_000,
+    ordered_states: 3000,
     ordered_inputs: 100,
     random_inputs: 1500,
     long_input: 20_000_000,
@@ -42,6 +47,7 @@ const NATIVE: Sizes = Sizes {
 /// Under an emulator everything takes many times as long.
 const EMULATED: Sizes = Sizes {
     damaged_calls: 250_000,
+    fed_traces: 10_000,
     ordered_states: 1000,
     ordered_inputs: 30,
     random_inputs: 500,
@@ -50,10 +56,19 @@ const EMULATED: Sizes = Sizes {
 
 fn library(sizes: &Sizes, seed: u64) -> Result<(), String> {
     let model = Model::right();
+    let version = cases::version()?;
+    println!("version: {version}, in the library and where it is declared");
     let mut tally = Tally::default();
     calls::damaged(&model, seed, sizes.damaged_calls, &mut tally)?;
     println!("damaged records and tables: {} calls agree", tally.calls);
     tally.require(calls::WANTED, 1)?;
+    let mut tally = Tally::default();
+    feeding::traces(&model, seed, sizes.fed_traces, &mut tally)?;
+    println!(
+        "feeding: {} traces at once, in pieces, as far as taken, and event by event agree",
+        tally.calls
+    );
+    tally.require(feeding::WANTED, 1)?;
     let mut tally = Tally::default();
     let lowerings = runs::clean(&model, seed, false, &mut tally)?;
     println!(
@@ -125,13 +140,14 @@ fn noticed_by(model: &Model, seed: u64) -> Vec<&'static str> {
             "damaged calls",
             calls::damaged(model, seed, 60_000, &mut tally),
         ),
+        ("feeding", feeding::traces(model, seed, 3_000, &mut tally)),
         (
             "clean runs",
             runs::clean(model, seed, true, &mut tally).map(|_| ()),
         ),
         (
             "random inputs",
-            traces::random_inputs(model, seed, 300, &mut tally),
+            traces::random_inputs(model, seed, 100, &mut tally),
         ),
         (
             "refusal orders",

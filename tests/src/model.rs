@@ -1,5 +1,6 @@
-//! A naive model of document 01 in plain Rust, written from its text alone. It shares no code and no data structure with the proved
-//! crates: numbers are wide, lists are rebuilt at each step, and nothing is kept that the text does not name.
+//! A naive model of document 01 in plain Rust, written from its text alone, and from the header's for a record that is lent as words
+//! and for events that are applied and fed. It shares no code and no data structure with the proved crates: numbers are wide, lists
+//! are rebuilt at each step, and nothing is kept that the text does not name.
 //!
 //! A model may contain one deliberate error (`Wrong`). The tests must notice each.
 
@@ -68,9 +69,30 @@ pub enum Wrong {
     KindBeforeNoBytes,
     ShortBeforeKind,
     SettingsBeforeShort,
+    SettingsBeforeKind,
+    // a record that is lent as words
+    OneWordShortAccepted,
+    MoreWordsRefused,
+    WordsBeyondCleared,
+    WordsBeforeSettings,
+    RestartRecordBeforeWords,
+    ReferRecordBeforeWords,
+    PointRecordBeforeWords,
+    PlotRecordBeforeWords,
+    // events applied and fed
+    ReadingBeforeWords,
+    RecordBeforeReading,
+    WordsJudgedByCallAlone,
+    ApplyTakesNothing,
+    ApplyTakesAll,
+    FeedCountsRefused,
+    FeedForgetsTaken,
+    FeedUndoes,
+    FeedRefusesIncomplete,
+    FeedNeverIncomplete,
 }
 
-pub const ALL_WRONG: [Wrong; 51] = [
+pub const ALL_WRONG: [Wrong; 70] = [
     Wrong::PlaceFromOne,
     Wrong::OneEntryRemoved,
     Wrong::NotAboveThreshold,
@@ -122,24 +144,49 @@ pub const ALL_WRONG: [Wrong; 51] = [
     Wrong::KindBeforeNoBytes,
     Wrong::ShortBeforeKind,
     Wrong::SettingsBeforeShort,
+    Wrong::SettingsBeforeKind,
+    Wrong::OneWordShortAccepted,
+    Wrong::MoreWordsRefused,
+    Wrong::WordsBeyondCleared,
+    Wrong::WordsBeforeSettings,
+    Wrong::RestartRecordBeforeWords,
+    Wrong::ReferRecordBeforeWords,
+    Wrong::PointRecordBeforeWords,
+    Wrong::PlotRecordBeforeWords,
+    Wrong::ReadingBeforeWords,
+    Wrong::RecordBeforeReading,
+    Wrong::WordsJudgedByCallAlone,
+    Wrong::ApplyTakesNothing,
+    Wrong::ApplyTakesAll,
+    Wrong::FeedCountsRefused,
+    Wrong::FeedForgetsTaken,
+    Wrong::FeedUndoes,
+    Wrong::FeedRefusesIncomplete,
+    Wrong::FeedNeverIncomplete,
 ];
 
 /// For each pair of neighbours among a call's refusals, the wrong model that swaps them.
 pub const SETUP_SWAPS: [Wrong; 1] = [Wrong::TablesBeforeSettings];
-pub const RESTART_SWAPS: [Wrong; 1] = [Wrong::RestartTablesBeforeRecord];
-pub const REFER_SWAPS: [Wrong; 3] = [
+pub const RESTART_SWAPS: [Wrong; 2] = [
+    Wrong::RestartRecordBeforeWords,
+    Wrong::RestartTablesBeforeRecord,
+];
+pub const REFER_SWAPS: [Wrong; 4] = [
+    Wrong::ReferRecordBeforeWords,
     Wrong::ReferTablesBeforeRecord,
     Wrong::FullBeforeTables,
     Wrong::BucketBeforeFull,
 ];
-pub const POINT_SWAPS: [Wrong; 5] = [
+pub const POINT_SWAPS: [Wrong; 6] = [
+    Wrong::PointRecordBeforeWords,
     Wrong::PointTablesBeforeRecord,
     Wrong::StaleBeforeTables,
     Wrong::PointBeforeStale,
     Wrong::BucketsBeforePoint,
     Wrong::EmptyBeforeBuckets,
 ];
-pub const PLOT_SWAPS: [Wrong; 5] = [
+pub const PLOT_SWAPS: [Wrong; 6] = [
+    Wrong::PlotRecordBeforeWords,
     Wrong::PlotTablesBeforeRecord,
     Wrong::PlotStaleBeforeTables,
     Wrong::PlotPointBeforeStale,
@@ -147,11 +194,14 @@ pub const PLOT_SWAPS: [Wrong; 5] = [
     Wrong::PlotEmptyBeforeBuckets,
 ];
 pub const READ_SWAPS: [Wrong; 2] = [Wrong::KindBeforeNoBytes, Wrong::ShortBeforeKind];
+pub const EVENT_SWAPS: [Wrong; 2] = [Wrong::ReadingBeforeWords, Wrong::RecordBeforeReading];
 
-/// Why a call is refused. Torn has three variants, so that the tests can count each cause.
+/// Why a call is refused. 2 has a variant of its own for the record's words, and Torn has three, so that the tests can count each
+/// cause.
 #[derive(Clone, Copy, Debug, PartialEq, Eq, PartialOrd, Ord)]
 pub enum Refusal {
     Settings,
+    Words,
     Tables,
     TornRecord,
     TornBucket,
@@ -168,7 +218,7 @@ impl Refusal {
     pub fn number(self) -> u64 {
         match self {
             Refusal::Settings => 1,
-            Refusal::Tables => 2,
+            Refusal::Words | Refusal::Tables => 2,
             Refusal::TornRecord | Refusal::TornBucket | Refusal::TornSum => 3,
             Refusal::Full => 4,
             Refusal::Stale => 5,
@@ -198,10 +248,15 @@ pub struct Record {
     pub sampled: u64,
 }
 
-/// A record with its lent tables.
+/// How many words a record has.
+pub const WORDS: usize = 9;
+
+/// A record with its lent tables. Of the record so many words are lent, at most all; if all are, words beyond them may be lent too.
 #[derive(Clone, Debug, PartialEq, Eq)]
 pub struct Tracker {
     pub record: Record,
+    pub words: usize,
+    pub beyond: Vec<u64>,
     pub locations: Vec<u64>,
     pub counts: Vec<u64>,
     pub thresholds: Vec<u32>,
@@ -234,6 +289,13 @@ pub enum Event {
     Span(u64, u32),
     Restart,
     Setup(u32, u32, u32, u32, u8),
+}
+
+/// What feeding did: how many bytes it took, and whether the rest is the beginning of an event, or why an event was refused.
+#[derive(Clone, Copy, Debug, PartialEq, Eq)]
+pub struct Fed {
+    pub taken: usize,
+    pub ending: Result<bool, Refusal>,
 }
 
 #[derive(Clone, Copy, Debug)]
@@ -282,6 +344,31 @@ fn scaled(count: u64, threshold: u64, bucket_threshold: u64) -> u64 {
 }
 
 impl Tracker {
+    /// No record yet: words of 0, and tables of these lengths.
+    pub fn blank(locations: usize, counts: usize, thresholds: usize) -> Tracker {
+        let zero = Settings {
+            limit: 0,
+            start: 0,
+            width: 0,
+            buckets: 0,
+            kind: 0,
+        };
+        Tracker {
+            record: Record {
+                settings: zero,
+                threshold: 0,
+                live: 0,
+                references: 0,
+                sampled: 0,
+            },
+            words: WORDS,
+            beyond: Vec::new(),
+            locations: vec![0; locations],
+            counts: vec![0; counts],
+            thresholds: vec![0; thresholds],
+        }
+    }
+
     fn buckets_long_enough(&self, settings: Settings) -> bool {
         let needed = settings.buckets.saturating_add(2);
         self.counts.len() as u64 >= needed && self.thresholds.len() as u64 >= needed
@@ -358,6 +445,13 @@ impl Model {
         judges.iter().try_for_each(|judge| judge())
     }
 
+    /// "If it has fewer, it cannot be judged."
+    fn judge_words(&self, tracker: &Tracker) -> Result<(), Refusal> {
+        let needed = WORDS - usize::from(self.is(Wrong::OneWordShortAccepted));
+        let more = self.is(Wrong::MoreWordsRefused) && !tracker.beyond.is_empty();
+        refuse_if(tracker.words < needed || more, Refusal::Words)
+    }
+
     pub fn hash(&self, kind: u64, location: u64) -> u64 {
         if kind == 0 {
             return location % P;
@@ -394,15 +488,22 @@ impl Model {
         if self.is(Wrong::LocationsCleared) {
             tracker.locations.fill(0);
         }
+        if self.is(Wrong::WordsBeyondCleared) {
+            tracker.beyond.fill(0);
+        }
     }
 
     pub fn setup(&self, given: Settings, tracker: &mut Tracker) -> Result<(), Refusal> {
         let settings = given.with_defaults();
         self.unless_all_refused(Refusal::Settings)?;
+        if self.is(Wrong::WordsBeforeSettings) {
+            self.judge_words(tracker)?;
+        }
         let judged = self.judge(
             [
                 &|| refuse_if(!settings.in_range(), Refusal::Settings),
                 &|| refuse_if(!tracker.long_enough(settings), Refusal::Tables),
+                &|| self.judge_words(tracker),
             ],
             &SETUP_SWAPS,
         );
@@ -420,6 +521,7 @@ impl Model {
         let judged = !self.is(Wrong::RestartJudgesNothing) || !record.settings.in_range();
         self.judge(
             [
+                &|| self.judge_words(tracker),
                 &|| refuse_if(judged && record.torn(), Refusal::TornRecord),
                 &|| refuse_if(!tracker.long_enough(record.settings), Refusal::Tables),
             ],
@@ -497,6 +599,7 @@ impl Model {
         let record = tracker.record;
         self.judge(
             [
+                &|| self.judge_words(tracker),
                 &|| refuse_if(record.torn(), Refusal::TornRecord),
                 &|| refuse_if(!tracker.long_enough(record.settings), Refusal::Tables),
                 &|| refuse_if(self.full(record, location), Refusal::Full),
@@ -675,6 +778,7 @@ impl Model {
         let settings = record.settings;
         self.judge(
             [
+                &|| self.judge_words(tracker),
                 &|| refuse_if(record.torn(), Refusal::TornRecord),
                 &|| refuse_if(!tracker.buckets_long_enough(settings), Refusal::Tables),
                 &|| self.judge_belief(tracker, believed),
@@ -808,17 +912,21 @@ fn length_of(kind: u8) -> usize {
     }
 }
 
-/// Whether the bytes end inside a setup event, after a sample limit outside its range.
-fn cut_after_limit(bytes: &[u8]) -> bool {
-    bytes.first() == Some(&4) && (5..18).contains(&bytes.len()) && small(&bytes[1..5]) > 8192
+/// Whether the bytes have a sample limit outside its range where a setup event has it.
+fn limit_too_large(bytes: &[u8]) -> bool {
+    bytes.len() >= 5 && small(&bytes[1..5]) > 8192
 }
 
 impl Model {
     pub fn read(&self, bytes: &[u8]) -> Result<(Event, usize), Refusal> {
-        let settings_first = self.is(Wrong::SettingsBeforeShort) && cut_after_limit(bytes);
-        refuse_if(settings_first, Refusal::Settings)?;
         let kind = bytes.first().copied().unwrap_or(0);
         let length = length_of(kind);
+        let settings_first = match self.wrong {
+            Some(Wrong::SettingsBeforeShort) => kind == 4 && bytes.len() < length,
+            Some(Wrong::SettingsBeforeKind) => kind > 4 && bytes.len() >= length,
+            _ => false,
+        };
+        refuse_if(settings_first && limit_too_large(bytes), Refusal::Settings)?;
         self.judge(
             [
                 &|| refuse_if(bytes.is_empty(), Refusal::Short),
@@ -882,6 +990,88 @@ impl Model {
         }
     }
 
+    /// The first event of the bytes, for a record that has enough words.
+    fn next_event(&self, tracker: &Tracker, bytes: &[u8]) -> Result<(Event, usize), Refusal> {
+        let torn = self.is(Wrong::RecordBeforeReading) && tracker.record.torn();
+        self.judge(
+            [
+                &|| self.judge_words_first(tracker),
+                &|| self.read(bytes).map(|_| ()),
+                &|| refuse_if(torn, Refusal::TornRecord),
+            ],
+            &EVENT_SWAPS,
+        )?;
+        self.read(bytes)
+    }
+
+    /// "2 before all else."
+    fn judge_words_first(&self, tracker: &Tracker) -> Result<(), Refusal> {
+        if self.is(Wrong::WordsJudgedByCallAlone) {
+            return Ok(());
+        }
+        self.judge_words(tracker)
+    }
+
+    /// Applies the first event of the bytes, and gives how many bytes it has.
+    pub fn apply_first(&self, tracker: &mut Tracker, bytes: &[u8]) -> Result<usize, Refusal> {
+        let (event, length) = self.next_event(tracker, bytes)?;
+        self.apply(tracker, event)?;
+        Ok(match self.wrong {
+            Some(Wrong::ApplyTakesNothing) => 0,
+            Some(Wrong::ApplyTakesAll) => bytes.len(),
+            _ => length,
+        })
+    }
+
+    /// Applies event after event.
+    pub fn feed(&self, tracker: &mut Tracker, bytes: &[u8]) -> Fed {
+        let before = self.is(Wrong::FeedUndoes).then(|| tracker.clone());
+        let mut fed = match self.judge_feeding(tracker, bytes) {
+            Ok(()) => self.feed_events(tracker, bytes),
+            Err(refusal) => Fed {
+                taken: 0,
+                ending: Err(refusal),
+            },
+        };
+        if let (Err(_), Some(before)) = (fed.ending, before) {
+            *tracker = before;
+        }
+        if fed.ending.is_err() && self.is(Wrong::FeedForgetsTaken) {
+            fed.taken = 0;
+        }
+        fed
+    }
+
+    /// "2 for the record's words, with no bytes too."
+    fn judge_feeding(&self, tracker: &Tracker, bytes: &[u8]) -> Result<(), Refusal> {
+        if self.is(Wrong::ReadingBeforeWords) && !bytes.is_empty() {
+            return Ok(());
+        }
+        self.judge_words_first(tracker)
+    }
+
+    fn feed_events(&self, tracker: &mut Tracker, bytes: &[u8]) -> Fed {
+        let mut taken = 0;
+        let ending = loop {
+            if taken == bytes.len() {
+                break Ok(false);
+            }
+            let (event, length) = match self.next_event(tracker, &bytes[taken..]) {
+                Ok(next) => next,
+                Err(Refusal::Short) if !self.is(Wrong::FeedRefusesIncomplete) => {
+                    break Ok(!self.is(Wrong::FeedNeverIncomplete));
+                }
+                Err(refusal) => break Err(refusal),
+            };
+            if let Err(refusal) = self.apply(tracker, event) {
+                taken += length * usize::from(self.is(Wrong::FeedCountsRefused));
+                break Err(refusal);
+            }
+            taken += length;
+        };
+        Fed { taken, ending }
+    }
+
     /// What the curve program prints.
     pub fn program(&self, input: &[u8]) -> String {
         let given = Settings {
@@ -891,18 +1081,7 @@ impl Model {
             buckets: 0,
             kind: 1,
         };
-        let mut tracker = Tracker {
-            record: Record {
-                settings: given,
-                threshold: 0,
-                live: 0,
-                references: 0,
-                sampled: 0,
-            },
-            locations: vec![0; 1024],
-            counts: vec![0; 1026],
-            thresholds: vec![0; 1026],
-        };
+        let mut tracker = Tracker::blank(1024, 1026, 1026);
         if let Err(refusal) = self.setup(given, &mut tracker) {
             return format!("refused {} at 0\n", refusal.number());
         }

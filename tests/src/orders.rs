@@ -1,14 +1,18 @@
-//! The order of refusals. Document 01 lists the refusals of each call in order; if several hold, the first is the answer. Each pair of
-//! neighbours is tried in states where both hold and none before them does. If each is answered before the next, the order is right.
+//! The order of refusals. Document 01 lists the refusals of each call in order, and the header adds those for the words of a record; if
+//! several hold, the first is the answer. Each pair of neighbours is tried in states where both hold and none before them does. If each
+//! is answered before the next, the order is right.
 
-use crate::calls::same_number;
-use crate::driver::{self, number_of, Driver, Lent};
+use crate::calls::{same, same_bytes};
+use crate::driver::{self, lent_bytes, number_of, Driver};
+use crate::events::unknown_kind;
 use crate::model::*;
 use crate::program::printed;
 use crate::random::Random;
 use crate::states::*;
 use crate::tally::Tally;
-use crate::traces::same;
+use crate::traces::same as same_text;
+use crate::trackers::cut_words;
+use std::fmt::Debug;
 
 /// A refusal: its number, the model's names for it, whether it holds in a state, and a change that makes it hold.
 struct Rule {
@@ -34,6 +38,14 @@ const SETUP_TABLES: Rule = Rule {
     named: &[Refusal::Tables],
     holds: |state| tables_short(&state.tracker, after_defaults(state.given)),
     make: |random, state| cut_a_table(random, &mut state.tracker, after_defaults(state.given)),
+};
+
+/// 2: the record has fewer words than it needs.
+const FEW_WORDS: Rule = Rule {
+    number: 2,
+    named: &[Refusal::Words],
+    holds: |state| state.tracker.words < 9,
+    make: |random, state| cut_words(random, &mut state.tracker),
 };
 
 /// 3: "record: a setting out of range, live above S, T above T0, sampled above references, references above 2^32 - 1".
@@ -136,12 +148,31 @@ const SHORT: Rule = Rule {
     make: cut_event,
 };
 
+/// 7: no bytes at all.
+const NO_BYTES: Rule = Rule {
+    number: 7,
+    named: &[Refusal::Short],
+    holds: |state| state.bytes.is_empty(),
+    make: |_, state| state.bytes.clear(),
+};
+
 /// 1: a setting outside its range, in the bytes of a setup event.
 const EVENT_SETTINGS: Rule = Rule {
     number: 1,
     named: &[Refusal::Settings],
     holds: |state| out_of_range(after_defaults(settings_in(&state.bytes))),
     make: |random, state| put_event_out_of_range(random, &mut state.bytes),
+};
+
+/// 2: a lent table shorter than needed, for the settings of a setup event.
+const EVENT_TABLES: Rule = Rule {
+    number: 2,
+    named: &[Refusal::Tables],
+    holds: |state| tables_short(&state.tracker, after_defaults(settings_in(&state.bytes))),
+    make: |random, state| {
+        let settings = after_defaults(settings_in(&state.bytes));
+        cut_a_table(random, &mut state.tracker, settings);
+    },
 };
 
 /// 2: a lent table shorter than needed. The program's "hold 1,024 locations and 1,026 buckets".
@@ -155,19 +186,22 @@ const PROGRAM_TABLES: Rule = Rule {
     make: outgrow_program,
 };
 
-// The orders, in document 01's words. Writing has none: "Writing an event into too few bytes answers 2."
+// The orders, in document 01's words, and in the header's: too few words are refused "2 before all else", by setup "2 after 1".
+// Writing has no order: "Writing an event into too few bytes answers 2."
 
 /// "Setup: 1, 2."
 const SETUP: &[Rule] = &[SETTINGS, SETUP_TABLES];
+const SETUP_OF_WORDS: &[Rule] = &[SETTINGS, FEW_WORDS];
 
 /// "A restart with the same settings (kind 3): 3 for the record, 2."
-const RESTART: &[Rule] = &[TORN_RECORD, TABLES];
+const RESTART: &[Rule] = &[FEW_WORDS, TORN_RECORD, TABLES];
 
 /// "A reference: 3 for the record, 2, 4, then 3 for the single bucket it would record in."
-const REFER: &[Rule] = &[TORN_RECORD, TABLES, FULL, TORN_BUCKET];
+const REFER: &[Rule] = &[FEW_WORDS, TORN_RECORD, TABLES, FULL, TORN_BUCKET];
 
 /// "A point: 3 for the record, 2, 5, 6, 3 for the buckets, 9."
 const POINT: &[Rule] = &[
+    FEW_WORDS,
     TORN_RECORD,
     BUCKET_TABLES,
     STALE,
@@ -178,6 +212,25 @@ const POINT: &[Rule] = &[
 
 /// "Reading: 7 if empty, 8, 7." The first two never hold together: without bytes there is no kind byte. `few_bytes` tries the first.
 const READ: &[Rule] = &[KIND, SHORT];
+
+// Applying: "2 for the record's words; those of rockgingham_read; those of the call that the event stands for."
+const APPLY_NOTHING: &[Rule] = &[FEW_WORDS, NO_BYTES];
+const APPLY_REFERENCE: &[Rule] = &[
+    FEW_WORDS,
+    KIND,
+    SHORT,
+    TORN_RECORD,
+    TABLES,
+    FULL,
+    TORN_BUCKET,
+];
+const APPLY_RESTART: &[Rule] = &[FEW_WORDS, KIND, TORN_RECORD, TABLES];
+const APPLY_SETUP: &[Rule] = &[FEW_WORDS, KIND, SHORT, EVENT_SETTINGS, EVENT_TABLES];
+
+// Feeding: "2 for the record's words [..]; 8; those of the call that an event stands for." An incomplete event is not refused.
+const FEED_REFERENCE: &[Rule] = &[FEW_WORDS, KIND, TORN_RECORD, TABLES, FULL, TORN_BUCKET];
+const FEED_RESTART: &[Rule] = &[FEW_WORDS, KIND, TORN_RECORD, TABLES];
+const FEED_SETUP: &[Rule] = &[FEW_WORDS, KIND, EVENT_SETTINGS, EVENT_TABLES];
 
 /// A setup event in the program: "A kind-4 event is read without judging its settings; setup does that." No other event can be refused
 /// by its call there: the record is never torn, and is full only after 2^32 - 1 references.
@@ -199,12 +252,14 @@ const LIBRARY: &[Call] = &[
         rules: SETUP,
         swaps: &SETUP_SWAPS,
         state: some_setup,
-        check: |model, state, rule| {
-            let modelled = |tracker: &mut Tracker| model.setup(state.given, tracker);
-            check_library(state, rule, modelled, |driver| {
-                (driver.setup(state.given), true)
-            })
-        },
+        check: check_setup,
+    },
+    Call {
+        name: "setup",
+        rules: SETUP_OF_WORDS,
+        swaps: &[Wrong::WordsBeforeSettings],
+        state: some_setup,
+        check: check_setup,
     },
     Call {
         name: "restart",
@@ -212,8 +267,11 @@ const LIBRARY: &[Call] = &[
         swaps: &RESTART_SWAPS,
         state: some_state,
         check: |model, state, rule| {
-            let modelled = |tracker: &mut Tracker| model.restart(tracker);
-            check_library(state, rule, modelled, |driver| (driver.restart(), true))
+            let modelled = |tracker: &mut Tracker| {
+                let answer = model.restart(tracker);
+                (answer.err(), number_of(&answer))
+            };
+            check_library(state, rule, modelled, |driver| driver.restart())
         },
     },
     Call {
@@ -222,11 +280,11 @@ const LIBRARY: &[Call] = &[
         swaps: &REFER_SWAPS,
         state: some_state,
         check: |model, state, rule| {
-            let modelled = |tracker: &mut Tracker| model.refer(tracker, state.location);
-            check_library(state, rule, modelled, |driver| {
-                let said = driver.refer(state.location);
-                (said.number, said.values.holds(&driver::untouched::<2>()))
-            })
+            let modelled = |tracker: &mut Tracker| {
+                let answer = model.refer(tracker, state.location);
+                (answer.err(), driver::answered(&answer))
+            };
+            check_library(state, rule, modelled, |driver| driver.refer(state.location))
         },
     },
     Call {
@@ -236,10 +294,12 @@ const LIBRARY: &[Call] = &[
         state: some_state,
         check: |model, state, rule| {
             let (believed, number) = (state.believed, state.number);
-            let modelled = |tracker: &mut Tracker| model.point(tracker, believed, number);
+            let modelled = |tracker: &mut Tracker| {
+                let answer = model.point(tracker, believed, number);
+                (answer.err(), driver::pointed(&answer))
+            };
             check_library(state, rule, modelled, |driver| {
-                let said = driver.point(believed, number);
-                (said.number, said.values.holds(&driver::untouched::<4>()))
+                driver.point(believed, number)
             })
         },
     },
@@ -250,12 +310,93 @@ const LIBRARY: &[Call] = &[
         state: some_state,
         check: |model, state, rule| {
             let (believed, number) = (state.believed, state.number);
-            let modelled = |tracker: &mut Tracker| model.plot(tracker, believed, number);
+            let modelled = |tracker: &mut Tracker| {
+                let answer = model.plot(tracker, believed, number);
+                (answer.err(), driver::plotted(&answer))
+            };
             check_library(state, rule, modelled, |driver| {
-                let said = driver.plot(believed, number);
-                (said.number, said.values.holds(&driver::untouched_pair()))
+                driver.plot(believed, number)
             })
         },
+    },
+    Call {
+        name: "apply nothing",
+        rules: APPLY_NOTHING,
+        swaps: &[Wrong::ReadingBeforeWords],
+        state: some_empty_span,
+        check: check_apply,
+    },
+    Call {
+        name: "apply a reference",
+        rules: APPLY_REFERENCE,
+        swaps: &[
+            Wrong::ReadingBeforeWords,
+            Wrong::ShortBeforeKind,
+            Wrong::RecordBeforeReading,
+            Wrong::ReferTablesBeforeRecord,
+            Wrong::FullBeforeTables,
+            Wrong::BucketBeforeFull,
+        ],
+        state: some_reference_event,
+        check: check_apply,
+    },
+    Call {
+        name: "apply a restart",
+        rules: APPLY_RESTART,
+        swaps: &[
+            Wrong::ReadingBeforeWords,
+            Wrong::RecordBeforeReading,
+            Wrong::RestartTablesBeforeRecord,
+        ],
+        state: some_restart_event,
+        check: check_apply,
+    },
+    Call {
+        name: "apply a setup",
+        rules: APPLY_SETUP,
+        swaps: &[
+            Wrong::ReadingBeforeWords,
+            Wrong::ShortBeforeKind,
+            Wrong::SettingsBeforeShort,
+            Wrong::TablesBeforeSettings,
+        ],
+        state: some_setup_event,
+        check: check_apply,
+    },
+    Call {
+        name: "feed a reference",
+        rules: FEED_REFERENCE,
+        swaps: &[
+            Wrong::ReadingBeforeWords,
+            Wrong::RecordBeforeReading,
+            Wrong::ReferTablesBeforeRecord,
+            Wrong::FullBeforeTables,
+            Wrong::BucketBeforeFull,
+        ],
+        state: some_reference_event,
+        check: check_feed,
+    },
+    Call {
+        name: "feed a restart",
+        rules: FEED_RESTART,
+        swaps: &[
+            Wrong::ReadingBeforeWords,
+            Wrong::RecordBeforeReading,
+            Wrong::RestartTablesBeforeRecord,
+        ],
+        state: some_restart_event,
+        check: check_feed,
+    },
+    Call {
+        name: "feed a setup",
+        rules: FEED_SETUP,
+        swaps: &[
+            Wrong::ReadingBeforeWords,
+            Wrong::SettingsBeforeKind,
+            Wrong::TablesBeforeSettings,
+        ],
+        state: some_setup_event,
+        check: check_feed,
     },
     Call {
         name: "read",
@@ -274,7 +415,7 @@ const PROGRAM: &[Call] = &[Call {
         Wrong::SettingsBeforeShort,
         Wrong::TablesBeforeSettings,
     ],
-    state: some_setup_event,
+    state: some_program_event,
     check: check_program,
 }];
 
@@ -312,55 +453,76 @@ fn drawn(call: &Call, first: usize, random: &mut Random) -> Result<[State; 3], S
     Err("the two never held at once".to_string())
 }
 
-/// Checks that the number returned and the model's answer are those of this refusal, or of no refusal.
-fn check_answer<T>(
-    number: u64,
-    answer: Result<T, Refusal>,
-    rule: Option<&Rule>,
-) -> Result<(), String> {
-    same_number(number, number_of(&answer))?;
-    match (answer, rule) {
-        (Ok(_), None) => Ok(()),
-        (Err(refusal), Some(rule)) if number == rule.number && rule.named.contains(&refusal) => {
+/// Checks that the model's answer is this refusal, or none.
+fn check_refusal(refusal: Option<Refusal>, rule: Option<&Rule>) -> Result<(), String> {
+    match (refusal, rule) {
+        (None, None) => Ok(()),
+        (Some(refusal), Some(rule))
+            if refusal.number() == rule.number && rule.named.contains(&refusal) =>
+        {
             Ok(())
         }
-        (_, Some(rule)) => Err(format!("answered {number}, not {:?}", rule.named)),
-        (Err(refusal), None) => Err(format!("{refusal:?} where no refusal holds")),
+        (_, Some(rule)) => Err(format!("answered {refusal:?}, not {:?}", rule.named)),
+        (Some(refusal), None) => Err(format!("{refusal:?} where no refusal holds")),
     }
 }
 
-/// `called` calls the library, and returns its number and whether its array for values is untouched. A refusal must change nothing.
-fn check_library<T>(
+/// `modelled` returns the model's refusal and all that the call must give; `called` calls the library. A refusal must change nothing.
+fn check_library<C: PartialEq + Debug>(
     state: &State,
     rule: Option<&Rule>,
-    modelled: impl FnOnce(&mut Tracker) -> Result<T, Refusal>,
-    called: impl FnOnce(&mut Driver) -> (u64, bool),
+    modelled: impl FnOnce(&mut Tracker) -> (Option<Refusal>, C),
+    called: impl FnOnce(&mut Driver) -> C,
 ) -> Result<(), String> {
     let mut tracker = state.tracker.clone();
     let mut driver = Driver::holding(&tracker);
-    let answer = modelled(&mut tracker);
-    let (number, untouched) = called(&mut driver);
-    check_answer(number, answer, rule)?;
+    let (refusal, expected) = modelled(&mut tracker);
+    same(called(&mut driver), expected)?;
+    check_refusal(refusal, rule)?;
     driver.compare(&tracker)?;
     if rule.is_some() {
         driver.compare(&state.tracker)?;
     }
-    if rule.is_some() && !untouched {
-        return Err("a refused call wrote its values".to_string());
-    }
     Ok(())
 }
 
+fn check_setup(model: &Model, state: &State, rule: Option<&Rule>) -> Result<(), String> {
+    let modelled = |tracker: &mut Tracker| {
+        let answer = model.setup(state.given, tracker);
+        (answer.err(), number_of(&answer))
+    };
+    check_library(state, rule, modelled, |driver| driver.setup(state.given))
+}
+
+fn check_apply(model: &Model, state: &State, rule: Option<&Rule>) -> Result<(), String> {
+    let modelled = |tracker: &mut Tracker| {
+        let answer = model.apply_first(tracker, &state.bytes);
+        (answer.err(), driver::applied(&answer))
+    };
+    let lent = lent_bytes(&state.bytes);
+    check_library(state, rule, modelled, |driver| driver.apply(&lent))?;
+    same_bytes(&lent, &state.bytes)
+}
+
+/// The event is fed after some spans of length 0, which change nothing and are taken.
+fn check_feed(model: &Model, state: &State, rule: Option<&Rule>) -> Result<(), String> {
+    let mut bytes = Event::Span(7, 0).bytes().repeat(state.before);
+    bytes.extend(&state.bytes);
+    let modelled = |tracker: &mut Tracker| {
+        let fed = model.feed(tracker, &bytes);
+        (fed.ending.err(), driver::fed(&fed))
+    };
+    let lent = lent_bytes(&bytes);
+    check_library(state, rule, modelled, |driver| driver.feed(&lent))?;
+    same_bytes(&lent, &bytes)
+}
+
 fn check_read(model: &Model, state: &State, rule: Option<&Rule>) -> Result<(), String> {
-    let mut lent = Lent::new(&state.bytes, 0xa5);
-    let said = driver::read(&mut lent);
-    check_answer(said.number, model.read(&state.bytes), rule)?;
-    let untouched = said.values.holds(&driver::untouched::<7>());
-    if lent.holds(&state.bytes) && (rule.is_none() || untouched) {
-        Ok(())
-    } else {
-        Err("reading wrote where it must not".to_string())
-    }
+    let answer = model.read(&state.bytes);
+    let lent = lent_bytes(&state.bytes);
+    same(driver::read(&lent), driver::got(&answer))?;
+    same_bytes(&lent, &state.bytes)?;
+    check_refusal(answer.err(), rule)
 }
 
 /// The program, given the event after a few references.
@@ -372,9 +534,9 @@ fn check_program(model: &Model, state: &State, rule: Option<&Rule>) -> Result<()
     let at = input.len();
     input.extend(&state.bytes);
     let text = printed(&input)?;
-    same(&text, &model.program(&input))?;
+    same_text(&text, &model.program(&input))?;
     match rule {
-        Some(rule) => same(&text, &format!("refused {} at {at}\n", rule.number)),
+        Some(rule) => same_text(&text, &format!("refused {} at {at}\n", rule.number)),
         None if text.starts_with("curve ") => Ok(()),
         None => Err(format!("printed '{text}' where no refusal holds")),
     }
@@ -436,26 +598,88 @@ fn few_bytes(model: &Model) -> Result<(), String> {
     Ok(())
 }
 
+/// Every call that takes a record, on records that it accepts, lent with each number of words from none to twice the needed.
+fn each_number_of_words(model: &Model, seed: u64) -> Result<(), String> {
+    let judged = |call: &&Call| call.rules.iter().any(|rule| rule.named == FEW_WORDS.named);
+    for call in LIBRARY.iter().filter(judged) {
+        for words in 0..=2 * WORDS {
+            let mut random = Random::new(seed ^ words as u64);
+            let [mut state, _, _] = drawn(call, 0, &mut random)?;
+            state.tracker.words = words.min(WORDS);
+            state.tracker.beyond = (WORDS..words).map(|_| random.any()).collect();
+            let rule = (words < WORDS).then_some(&FEW_WORDS);
+            (call.check)(model, &state, rule)
+                .map_err(|error| format!("{}, {words} words, seed {seed}: {error}", call.name))?;
+        }
+    }
+    Ok(())
+}
+
 /// The pairs that must have been tried, by the model's names.
 pub const WANTED: &[(&str, &[&str])] = &[
-    ("setup", &["Settings-Tables"]),
-    ("restart", &["TornRecord-Tables"]),
+    ("setup", &["Settings-Tables", "Settings-Words"]),
+    ("restart", &["Words-TornRecord", "TornRecord-Tables"]),
     (
         "refer",
-        &["TornRecord-Tables", "Tables-Full", "Full-TornBucket"],
+        &[
+            "Words-TornRecord",
+            "TornRecord-Tables",
+            "Tables-Full",
+            "Full-TornBucket",
+        ],
     ),
     ("point", WANTED_OF_POINT),
     ("plot", WANTED_OF_POINT),
+    ("apply nothing", &["Words-Short"]),
+    (
+        "apply a reference",
+        &[
+            "Words-Kind",
+            "Kind-Short",
+            "Short-TornRecord",
+            "TornRecord-Tables",
+            "Tables-Full",
+            "Full-TornBucket",
+        ],
+    ),
+    ("apply a restart", WANTED_OF_RESTART),
+    (
+        "apply a setup",
+        &[
+            "Words-Kind",
+            "Kind-Short",
+            "Short-Settings",
+            "Settings-Tables",
+        ],
+    ),
+    (
+        "feed a reference",
+        &[
+            "Words-Kind",
+            "Kind-TornRecord",
+            "TornRecord-Tables",
+            "Tables-Full",
+            "Full-TornBucket",
+        ],
+    ),
+    ("feed a restart", WANTED_OF_RESTART),
+    (
+        "feed a setup",
+        &["Words-Kind", "Kind-Settings", "Settings-Tables"],
+    ),
     ("read", &["Kind-Short"]),
 ];
 
 const WANTED_OF_POINT: &[&str] = &[
+    "Words-TornRecord",
     "TornRecord-Tables",
     "Tables-Stale",
     "Stale-Point",
     "Point-TornBucket",
     "TornBucket-Empty",
 ];
+
+const WANTED_OF_RESTART: &[&str] = &["Words-Kind", "Kind-TornRecord", "TornRecord-Tables"];
 
 pub const WANTED_OF_PROGRAM: &[(&str, &[&str])] = &[(
     "program",
@@ -468,7 +692,8 @@ pub fn pairs(wanted: &[(&str, &[&str])]) -> usize {
 
 pub fn library(model: &Model, seed: u64, states: u64, tally: &mut Tally) -> Result<(), String> {
     every_pair(LIBRARY, model, seed, states, tally)?;
-    few_bytes(model)
+    few_bytes(model)?;
+    each_number_of_words(model, seed)
 }
 
 pub fn program(model: &Model, seed: u64, inputs: u64, tally: &mut Tally) -> Result<(), String> {

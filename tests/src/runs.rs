@@ -1,7 +1,9 @@
-//! Long clean runs of the static library, with many lowerings: every word and entry is compared with the model after every call.
+//! Long clean runs of the static library, with many lowerings: every word and entry is compared with the model after every call. The
+//! record is lent with more words than it has.
 
-use crate::calls::{check_plot, check_point, check_refer, check_restart, check_setup};
+use crate::calls::*;
 use crate::driver::Driver;
+use crate::events::span_to;
 use crate::model::*;
 use crate::random::Random;
 use crate::tally::Tally;
@@ -60,6 +62,26 @@ fn next_location(random: &mut Random, recent: &[u64], locations: u64) -> u64 {
     }
 }
 
+/// A reference: by refer, or by an event that is applied or fed.
+fn refer_somehow(
+    model: &Model,
+    random: &mut Random,
+    tracker: &mut Tracker,
+    driver: &mut Driver,
+    location: u64,
+    tally: &mut Tally,
+) -> Result<(), String> {
+    let event = match random.below(2) {
+        0 => Event::Location(location),
+        _ => span_to(random, location),
+    };
+    match random.below(4) {
+        0 => check_apply(model, tracker, driver, &event.bytes(), tally),
+        1 => check_feed(model, tracker, driver, &event.bytes(), tally).map(|_| ()),
+        _ => check_refer(model, tracker, driver, location, tally),
+    }
+}
+
 fn ask_points(
     model: &Model,
     random: &mut Random,
@@ -80,18 +102,11 @@ fn ask_points(
 fn run(model: &Model, random: &mut Random, plan: &Plan, tally: &mut Tally) -> Result<u64, String> {
     let settings = plan.settings.with_defaults();
     let needed = settings.buckets as usize + 2;
-    let mut tracker = Tracker {
-        record: Record {
-            settings,
-            threshold: 0,
-            live: 0,
-            references: 0,
-            sampled: 0,
-        },
-        locations: vec![77; settings.limit as usize + 3],
-        counts: vec![78; needed + 1],
-        thresholds: vec![79; needed + 2],
-    };
+    let mut tracker = Tracker::blank(settings.limit as usize + 3, needed + 1, needed + 2);
+    tracker.beyond = (0..random.between(1, 5)).map(|_| random.any()).collect();
+    tracker.locations.fill(77);
+    tracker.counts.fill(78);
+    tracker.thresholds.fill(79);
     let mut driver = Driver::holding(&tracker);
     check_setup(model, &mut tracker, &mut driver, plan.settings, tally)?;
     let mut recent = Vec::new();
@@ -100,7 +115,7 @@ fn run(model: &Model, random: &mut Random, plan: &Plan, tally: &mut Tally) -> Re
         let location = next_location(random, &recent, plan.locations);
         recent.push(location);
         let before = tracker.record.threshold;
-        check_refer(model, &mut tracker, &mut driver, location, tally)
+        refer_somehow(model, random, &mut tracker, &mut driver, location, tally)
             .map_err(|error| format!("{:?} reference {at} to {location}: {error}", settings))?;
         lowerings += u64::from(tracker.record.threshold < before);
         if at % 97 == 0 {

@@ -1,11 +1,10 @@
 //! States that a call may be given: whether a refusal holds in one, and changes that make it hold.
 
-use crate::calls::{
-    damage_word, some_event, some_reference, some_settings, some_tracker, with_zeros,
-};
+use crate::events::{some_event, span_to};
 use crate::model::*;
 use crate::published;
 use crate::random::Random;
+use crate::trackers::{damage_word, some_reference, some_settings, some_tracker, with_zeros};
 
 /// Everything that a call may be given.
 #[derive(Clone)]
@@ -16,6 +15,8 @@ pub struct State {
     pub believed: Shape,
     pub number: u64,
     pub bytes: Vec<u8>,
+    /// How many spans of length 0 are fed before the bytes.
+    pub before: usize,
 }
 
 // Whether a refusal holds, from document 01's words alone.
@@ -212,10 +213,13 @@ fn tear_bucket(random: &mut Random, tracker: &mut Tracker, bucket: usize) {
     tracker.thresholds[bucket] = threshold as u32;
 }
 
-/// A reference that would not be sampled is replaced by one to location 0, whose hash is 0 for either kind.
+/// A reference that would not be sampled is replaced by one to location 0, whose hash is 0 for either kind, in its event too.
 pub fn tear_recorded_in(random: &mut Random, state: &mut State) {
     if recorded_in(state).is_none() {
         state.location = 0;
+        if let [1 | 2, body @ ..] = &mut state.bytes[..] {
+            body[..8].fill(0);
+        }
         let record = &mut state.tracker.record;
         record.threshold = record.threshold.max(1);
     }
@@ -265,14 +269,6 @@ pub fn believe_another(random: &mut Random, state: &mut State) {
         3 => believed.width = 0,
         4 => believed.width = settings.width - 1,
         _ => believed.width = above(random, settings.width),
-    }
-}
-
-pub fn unknown_kind(random: &mut Random) -> u8 {
-    match random.below(4) {
-        0 => 0,
-        1 => 5,
-        _ => random.between(5, 255) as u8,
     }
 }
 
@@ -331,7 +327,35 @@ pub fn some_state(random: &mut Random) -> State {
         },
         number: random.between(0, settings.buckets),
         bytes,
+        before: random.below(3) as usize,
         tracker,
+    }
+}
+
+/// An event that refers to the state's location.
+pub fn some_reference_event(random: &mut Random) -> State {
+    let mut state = some_state(random);
+    let location = state.location;
+    let event = match random.below(2) {
+        0 if location < 1 << 52 => span_to(random, location),
+        _ => Event::Location(location),
+    };
+    state.bytes = event.bytes();
+    state
+}
+
+/// An event that stands for no call.
+pub fn some_empty_span(random: &mut Random) -> State {
+    State {
+        bytes: Event::Span(random.any(), 0).bytes(),
+        ..some_state(random)
+    }
+}
+
+pub fn some_restart_event(random: &mut Random) -> State {
+    State {
+        bytes: Event::Restart.bytes(),
+        ..some_state(random)
     }
 }
 
@@ -350,8 +374,20 @@ pub fn some_setup(random: &mut Random) -> State {
     state
 }
 
-/// A setup event that the program accepts.
+/// A setup event with tables that are long enough.
 pub fn some_setup_event(random: &mut Random) -> State {
+    let state = some_setup(random);
+    let given = state.given;
+    let [limit, start, width, buckets] =
+        [given.limit, given.start, given.width, given.buckets].map(|word| word as u32);
+    State {
+        bytes: Event::Setup(limit, start, width, buckets, given.kind as u8).bytes(),
+        ..state
+    }
+}
+
+/// A setup event that the program accepts.
+pub fn some_program_event(random: &mut Random) -> State {
     let mut word = |most: u64| random.between(0, most) as u32;
     let event = Event::Setup(
         word(1024),

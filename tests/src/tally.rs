@@ -10,9 +10,14 @@ pub struct Tally {
 
 impl Tally {
     pub fn count(&mut self, function: &str, answer: &str) {
-        let key = (function.to_string(), answer.to_string());
-        *self.counts.entry(key).or_insert(0) += 1;
+        self.note(function, answer);
         self.calls += 1;
+    }
+
+    /// Something that was met, and is no call.
+    pub fn note(&mut self, what: &str, met: &str) {
+        let key = (what.to_string(), met.to_string());
+        *self.counts.entry(key).or_insert(0) += 1;
     }
 
     fn of(&self, function: &str, answer: &str) -> u64 {

@@ -1,6 +1,6 @@
 //! The curve program, compared with the model, the LRU simulator and the published hash.
 
-use crate::calls::some_event;
+use crate::events::some_event;
 use crate::lru;
 use crate::model::*;
 use crate::program::{printed, printed_in_pieces};

@@ -71,6 +71,10 @@ untouched = record {
       ∙ leaves-was (applyOrder e s) tt s (applyAfter e s) n (sym (ap (λ o. o .result) (apply-is e s)) ∙ r);
 }
 
+-- no event is refused 0
+pub apply-some : (e : Event) (s : Tracker) → applyOf e s .result ≡ refused 0 → ⊥
+apply-some e s r = says-some (applyOrder e s) tt (sym (ap (λ o. o .result) (apply-is e s)) ∙ r)
+
 -- ---- (b)
 
 pub in-order : InOrder

@@ -1,47 +1,188 @@
--- How what a call leaves follows from what the rules say of it. Each law takes the contracts of the functions called, and rewrites by them.
--- Assumes nothing.
+-- How what a call returns and leaves follows from the promises of the functions that it calls. One law for words that are too few, one for a
+-- call that went to the rules; a start, an event and feeding add what is theirs. Assumes nothing.
 use Prim.Native.Nat.{ℕ}
-use mathlib.Core.Path.{_≡_}
+use mathlib.Core.Path.{_≡_, refl, sym, ap, _∙_}
+use mathlib.Core.Bool.{Bool, true, false, not, cond}
 use mathlib.Core.List.{List}
+use native.Mathlib.Omega.{arith}
+use lib.Dec.{eqb}
+use lib.ListN.{take}
+use borrow.Author.Tests.{eqb-true, ne-eqb}
+use Rattle.rules.specs.declared.Settings.{Settings}
 use Rattle.rules.specs.declared.Record.{Record}
-use Rattle.rules.specs.Settings.{Tables}
-use Rattle.rules.specs.Reference.{Reply}
-use Rattle.rules.specs.Answers.{Result, refused, gives, numberOf}
-use Rattle.rules.specs.Order.{Outcome}
+use Rattle.rules.specs.Settings.{Tables, withDefaults, outOfRange}
+use Rattle.rules.specs.Reference.{Reply, skipped, first, again}
+use Rattle.rules.specs.Answers.{Result, refused, gives, numberOf, Got}
+use Rattle.rules.specs.Order.{Outcome, outcome}
+use Rattle.rules.specs.Events.{readOf}
 use Rattle.rules.specs.Layout.{Tracker}
-use Rattle.words.specs.Words.{wordsOf, replyWords, orOld}
-use Rattle.driver.specs.Calls.{started, startedBy, referred, stepped, given, into, written}
+use Rattle.rules.specs.Conditions.{tooShort}
+use Rattle.rules.specs.Calls.{setupOf, restartOf, startedOver, restartOver, referOf, applyOf}
+use Rattle.rules.proofs.Tests.{cases}
+use Rattle.rules.proofs.Events.{taken}
+use Rattle.feed.specs.Feed.{Feeding, End, feedOf}
+use Rattle.feed.proofs.Pieces.{none-taken, one-event}
+use Rattle.words.specs.declared.AnswerWords.{AnswerWords}
+use Rattle.words.specs.declared.AppliedWords.{AppliedWords}
+use Rattle.words.specs.declared.WrittenWords.{WrittenWords}
+use Rattle.words.specs.declared.FedWords.{FedWords}
+use Rattle.words.specs.Words.{fewWords, recordOf, put, storedIf, storedStart, Returned, returned, giving, answerWords, appliedWords, writtenWords, fedWords}
+use Rattle.words.proofs.Laws.{put-same}
+use Rattle.driver.specs.Calls.{Held, held, trackerIn, returning, keeping, onHeld, setupHeld, setupIn, fewForSetup, restartIn, referIn, applyGot, applyIn}
+use Rattle.driver.specs.Calls.{fedIn, feedIn}
 
--- words lent for what a call gives
-pub gave : {A C : Type 0} (f : A → C) {s t : Result A} (old : C) {n : ℕ} {new : C} → s ≡ t → n ≡ numberOf s → new ≡ orOld f s old
-    → given n new ≡ into f t old
-gave f old e number words = rw (← e, number, words)
+-- the refusal stands first
+pub answer-number : (s : Result Reply) → answerWords s .refusal ≡ numberOf s
+answer-number (refused n) = refl
+answer-number (gives skipped) = refl
+answer-number (gives first) = refl
+answer-number (gives (again d)) = refl
 
--- and one law for what is given, one for a refusal
-module _ {A C : Type 0} (f : A → C) (s : Result A) (old : C) where
-  pub given-into : {a : A} {new : C} → s ≡ gives a → new ≡ f a → given 0 new ≡ into f s old
-  given-into known words = rw (known, words)
-
-  pub refused-into : {n m : ℕ} → s ≡ refused n → m ≡ n → given m old ≡ into f s old
-  refused-into known number = rw (known, number)
-
--- a start
-pub began : {b : Outcome Record Tables} {s : Result Record} {t : Tables} (old : List ℕ) {n : ℕ} {new : List ℕ}
-    → record { result = s; left = t } ≡ b → n ≡ numberOf s → new ≡ orOld wordsOf s old → started n new t ≡ startedBy b old
-began old e number words = rw (← e, number, words)
-
--- a reference
-pub stepped-is : {o : Outcome Reply Tracker} {s : Result Reply} {kept : Record} {t : Tables} (old values : List ℕ) {n : ℕ} {new answer : List ℕ}
-    → record { result = s; left = record { kept = kept; tables = t } } ≡ o → n ≡ numberOf s → new ≡ orOld (λ _. wordsOf kept) s old
-    → answer ≡ orOld replyWords s values
-    → referred n new answer t ≡ stepped o old values
-stepped-is old values e number words answer = rw (← e, number, words, answer)
-
-pub unstepped : {o : Outcome Reply Tracker} {s : Result Reply} {kept : Record} {t : Tables} (old values : List ℕ) {n m : ℕ}
-    → record { result = s; left = record { kept = kept; tables = t } } ≡ o → s ≡ refused m → n ≡ m → referred n old values t ≡ stepped o old values
-unstepped old values e is number = rw (← e, is, number)
+-- the record that the words hold, stored or not, leaves them as they were
+pub stored-same : (b : Bool) (w : List ℕ) → storedIf b (recordOf w) w ≡ w
+stored-same true w = put-same w
+stored-same false w = refl
 
 -- a written event
-pub wrote : {f : Outcome ℕ (List ℕ)} {s : Result ℕ} {m : ℕ} {buffer : List ℕ} → record { result = s; left = buffer } ≡ f → m ≡ numberOf s
-    → given m buffer ≡ written f
-wrote e number = rw (← e, number)
+pub wrote : {f : Outcome ℕ (List ℕ)} {s : Result ℕ} {r : WrittenWords} {buffer : List ℕ} → outcome s buffer ≡ f → r ≡ writtenWords s
+    → returned r buffer ≡ returning writtenWords f
+wrote {f} {s} {r} {buffer} e is = ap (λ z. returned z buffer) is ∙ ap (returning writtenWords) e
+
+-- ---- any call that judges the record
+
+module _ {A B : Type 0} (words : Result A → B) (call : Tracker → Outcome A Tracker) (h : Held) where
+  -- what is left turns on whether the words are too few
+  by-words : (b : Bool) → fewWords (h .words) ≡ b
+      → returning words (onHeld call h) ≡ returning words (cond b (outcome (refused 2) h) (keeping h (call (trackerIn h))))
+  by-words b is = ap (λ z. returning words (cond z (outcome (refused 2) h) (keeping h (call (trackerIn h))))) is
+
+  -- the words are too few
+  pub too-few : {r : B} → fewWords (h .words) ≡ true → r ≡ words (refused 2) → returned r h ≡ returning words (onHeld call h)
+  too-few few is = ap (λ z. returned z h) is ∙ sym (by-words true few)
+
+  -- the record and the tables are what the rules left; `given` is what is stored by
+  module _ {s : Result A} {kept : Record} {t : Tables} (enough : fewWords (h .words) ≡ false)
+      (e : outcome s (record { kept = kept; tables = t }) ≡ call (trackerIn h)) where
+    pub stored-by : {r : B} {n : ℕ} {w : List ℕ} → r ≡ words s → n ≡ numberOf s → w ≡ storedIf (eqb n 0) kept (h .words)
+        → returned r (held w t) ≡ returning words (onHeld call h)
+    stored-by {r} {n} {w} is number stored =
+        let at : w ≡ storedIf (eqb (numberOf s) 0) kept (h .words) = stored ∙ ap (λ z. storedIf (eqb z 0) kept (h .words)) number in
+        (λ i. returned (is i) (held (at i) t)) ∙ ap (λ o. returning words (keeping h o)) e ∙ sym (by-words false enough)
+
+-- ---- a reference
+
+pub refer-stored : (x : ℕ) (h : Held) {s : Result Reply} {kept : Record} {t : Tables} {r : AnswerWords} {w : List ℕ} → fewWords (h .words) ≡ false
+    → outcome s (record { kept = kept; tables = t }) ≡ referOf x (trackerIn h) → r ≡ answerWords s
+    → w ≡ storedIf (eqb (r .refusal) 0) kept (h .words) → returned r (held w t) ≡ referIn x h
+refer-stored x h {s} enough e is stored =
+    stored-by answerWords (referOf x) h enough e is (ap (λ z. z .refusal) is ∙ answer-number s) stored
+
+pub refer-skipped : (x : ℕ) (h : Held) {kept : Record} {r : AnswerWords} {w : List ℕ} → fewWords (h .words) ≡ false
+    → outcome (gives skipped) (record { kept = kept; tables = h .tables }) ≡ referOf x (trackerIn h) → r ≡ answerWords (gives skipped)
+    → w ≡ storedIf true kept (h .words) → returned r (held w (h .tables)) ≡ referIn x h
+refer-skipped x h enough e is stored = stored-by answerWords (referOf x) h enough e is refl stored
+
+-- ---- starts
+
+-- where the words are too few, setup is refused by the settings
+pub few-for : (given defaulted : Settings) {out b : Bool} → defaulted ≡ withDefaults given → out ≡ outOfRange defaulted → out ≡ b
+    → cond b 1 2 ≡ fewForSetup given
+few-for given defaulted with out is = ap (λ z. cond z 1 2) (sym is ∙ out ∙ ap outOfRange with)
+
+module _ (h : Held) where
+  -- what is stored of a start that is refused, and of one that is not, with the tables that it left
+  module _ {s : Result Record} {t : Tables} {r : ℕ} {w : List ℕ} (p : returned r w ≡ storedStart s (h .words)) where
+    pub start-refused : {n : ℕ} → s ≡ refused n → t ≡ h .tables → returned r (held w t) ≡ returned n h
+    start-refused {n} is same =
+        let q : returned r w ≡ returned n (h .words) = p ∙ ap (λ z. storedStart z (h .words)) is in
+        λ i. returned (q i .value) (held (q i .left) (same i))
+
+    pub start-given : {kept : Record} {after : Tables} → s ≡ gives kept → t ≡ after
+        → returned r (held w t) ≡ returned 0 (held (put kept (h .words)) after)
+    start-given {kept} is same =
+        let q : returned r w ≡ returned 0 (put kept (h .words)) = p ∙ ap (λ z. storedStart z (h .words)) is in
+        λ i. returned (q i .value) (held (q i .left) (same i))
+
+  -- setup
+  module _ (given : Settings) where
+    pub setup-few : {r : ℕ} → fewWords (h .words) ≡ true → r ≡ fewForSetup given → returned r h ≡ setupIn given h
+    setup-few few is = cases (outOfRange (withDefaults given))
+        (λ a. rw (few, is, a))
+        (λ a. cases (tooShort (withDefaults given) (h .tables)) (λ b. rw (few, is, a, b)) (λ b. rw (few, is, a, b)))
+
+    pub setup-stored : {s : Result Record} {t : Tables} {r : ℕ} {w : List ℕ} → fewWords (h .words) ≡ false
+        → outcome s t ≡ setupOf given (h .tables) → returned r w ≡ storedStart s (h .words) → returned r (held w t) ≡ setupIn given h
+    unfolding setupOf
+    setup-stored {s} {t} enough e p = cases (outOfRange (withDefaults given))
+        (λ a. let q = rw a at e in start-refused p (ap (λ o. o .result) q) (ap (λ o. o .left) q) ∙ rw a)
+        (λ a. cases (tooShort (withDefaults given) (h .tables))
+        (λ b. let q = rw (a, b) at e in start-refused p (ap (λ o. o .result) q) (ap (λ o. o .left) q) ∙ rw (a, b))
+        (λ b. let q = rw (a, b) at e in start-given p (ap (λ o. o .result) q) (ap (λ o. o .left) q) ∙ rw (a, b, enough)))
+
+  -- restart
+  pub restart-stored : {s : Result Record} {t : Tables} {r : ℕ} {w : List ℕ} → fewWords (h .words) ≡ false
+      → outcome s t ≡ restartOf (recordOf (h .words)) (h .tables) → returned r w ≡ storedStart s (h .words) → returned r (held w t) ≡ restartIn h
+  restart-stored {s} {t} {r} {w} enough e p = by s p (ap (λ o. startedOver (recordOf (h .words)) (o .result) (o .left)) e)
+    where
+      by : (s : Result Record) → returned r w ≡ storedStart s (h .words) → startedOver (recordOf (h .words)) s t ≡ restartOver (trackerIn h)
+          → returned r (held w t) ≡ restartIn h
+      by (refused n) p q =
+          stored-by numberOf restartOver h enough q (ap (λ z. z .value) p) refl (ap (λ z. z .left) p ∙ sym (stored-same (eqb n 0) (h .words)))
+      by (gives kept) p q = stored-by numberOf restartOver h enough q (ap (λ z. z .value) p) refl (ap (λ z. z .left) p)
+
+-- ---- trace events
+
+module _ (bytes : List ℕ) (h : Held) where
+  -- an event that cannot be read
+  pub apply-unread : {n : ℕ} {r : AppliedWords} → fewWords (h .words) ≡ false → readOf bytes ≡ refused n → r ≡ appliedWords (refused n)
+      → returned r h ≡ applyIn bytes h
+  apply-unread {n} enough read is =
+      stored-by appliedWords (applyGot (readOf bytes)) h enough (ap (λ z. applyGot z (trackerIn h)) (sym read)) is refl
+      (sym (stored-same (eqb n 0) (h .words)))
+
+  -- and one that is fed alone
+  abbrev fedAlone : Feeding → Returned AppliedWords Held
+  fedAlone f =
+      let given = fedWords (f .taken) (f .result) in
+      returned (record { refusal = given .refusal; taken = given .taken })
+      (held (storedIf (not (eqb (f .taken) 0)) (f .left .kept) (h .words)) (f .left .tables))
+
+  module _ {g : Got} (enough : fewWords (h .words) ≡ false) (read : readOf bytes ≡ gives g) where
+    gave : {o : Outcome (Unit {0}) Tracker} → applyOf (g .event) (trackerIn h) ≡ o
+        → outcome (giving (g .taken) (o .result)) (o .left) ≡ applyGot (readOf bytes) (trackerIn h)
+    gave is = sym (ap (λ z. applyGot z (trackerIn h)) read ∙ ap (λ o. outcome (giving (g .taken) (o .result)) (o .left)) is)
+
+    alone : (f : Feeding) → f ≡ feedOf (take (g .taken) bytes) (trackerIn h) → fedAlone f ≡ applyIn bytes h
+    alone f e = one-event bytes (trackerIn h) g read
+        (λ left is fed.
+        let some : eqb (g .taken) 0 ≡ false = ne-eqb (g .taken) 0 (λ z. omega (arith, taken bytes read)) in
+        ap fedAlone (e ∙ fed)
+        ∙ stored-by appliedWords (applyGot (readOf bytes)) h enough (gave is) refl refl (ap (λ b. storedIf (not b) (left .kept) (h .words)) some))
+        (λ n is fed. ap fedAlone (e ∙ fed)
+        ∙ stored-by appliedWords (applyGot (readOf bytes)) h enough (gave is) refl refl (sym (stored-same (eqb n 0) (h .words))))
+
+    pub apply-stored : {f : Feeding} {given : FedWords} {w : List ℕ} → f ≡ feedOf (take (g .taken) bytes) (trackerIn h)
+        → given ≡ fedWords (f .taken) (f .result) → w ≡ storedIf (not (eqb (f .taken) 0)) (f .left .kept) (h .words)
+        → returned (record { refusal = given .refusal; taken = given .taken }) (held w (f .left .tables)) ≡ applyIn bytes h
+    apply-stored {f} e is stored =
+        (λ i. returned (record { refusal = is i .refusal; taken = is i .taken }) (held (stored i) (f .left .tables))) ∙ alone f e
+
+  -- feeding
+  pub feed-few : {r : FedWords} → fewWords (h .words) ≡ true → r ≡ fedWords 0 (refused 2) → returned r h ≡ feedIn bytes h
+  feed-few few is = ap (λ z. returned z h) is ∙ sym (ap (λ b. cond b (returned (fedWords 0 (refused 2)) h) (fedIn h (feedOf bytes (trackerIn h)))) few)
+
+  -- if nothing was taken, the record is the words' own
+  stored-fed : (f : Feeding) → f ≡ feedOf bytes (trackerIn h)
+      → storedIf (not (eqb (f .taken) 0)) (f .left .kept) (h .words) ≡ put (f .left .kept) (h .words)
+  stored-fed f e = cases (eqb (f .taken) 0)
+      (λ z. let none : f .left ≡ trackerIn h = ap (λ q. q .left) e ∙ none-taken bytes (trackerIn h) (sym (ap (λ q. q .taken) e) ∙ eqb-true (f .taken) 0 z) in
+      ap (λ b. storedIf (not b) (f .left .kept) (h .words)) z ∙ sym (ap (λ q. put (q .kept) (h .words)) none ∙ put-same (h .words)))
+      (λ z. ap (λ b. storedIf (not b) (f .left .kept) (h .words)) z)
+
+  pub feed-stored : {f : Feeding} {r : FedWords} {w : List ℕ} → fewWords (h .words) ≡ false → f ≡ feedOf bytes (trackerIn h)
+      → r ≡ fedWords (f .taken) (f .result) → w ≡ storedIf (not (eqb (f .taken) 0)) (f .left .kept) (h .words)
+      → returned r (held w (f .left .tables)) ≡ feedIn bytes h
+  feed-stored {f} {r} {w} enough e is stored =
+      let at : w ≡ put (f .left .kept) (h .words) = stored ∙ stored-fed f e in
+      (λ i. returned (is i) (held (at i) (f .left .tables))) ∙ ap (fedIn h) e
+      ∙ sym (ap (λ b. cond b (returned (fedWords 0 (refused 2)) h) (fedIn h (feedOf bytes (trackerIn h)))) enough)

@@ -1,64 +1,64 @@
--- Each promise decides the answer and all that is lent: any two results that it allows coincide. Both are the same outcome, whose parts are read
--- off. Assumes nothing.
+-- Each promise decides what is returned and all that is lent: any two results that it allows coincide. Both are the same value, whose parts are
+-- read off. Assumes nothing.
 use Prim.Native.Nat.{ℕ}
 use mathlib.Core.Path.{_≡_, sym, ap, _∙_}
 use mathlib.Core.List.{List}
-use lib.Ieee.{Float}
 use Rattle.rules.specs.declared.Settings.{Settings}
 use Rattle.rules.specs.declared.Shape.{Shape}
 use Rattle.rules.specs.declared.Event.{Event}
 use Rattle.rules.specs.Settings.{Histogram, Tables}
-use Rattle.driver.specs.Calls.{hashIn, Started, started, setupIn, restartIn, Referred, referred}
-use Rattle.driver.specs.Calls.{referIn, Given, given, pointIn, plotIn, readIn, writeIn}
+use Rattle.words.specs.Words.{Returned, returned}
+use Rattle.driver.specs.Calls.{version, hashIn, Held, held, setupIn, restartIn, referIn, pointIn, plotIn, applyIn, feedIn, readIn, writeIn}
 
--- what is left coincides where it is one of these
-abbrev StartedOnce : Started → Type 0
-StartedOnce x = (m n : ℕ) (u v : List ℕ) (s t : Tables) → started m u s ≡ x → started n v t ≡ x → (m ≡ n) × (u ≡ v) × (s ≡ t)
+-- a value
+abbrev Once : {A : Type 0} → A → Type 0
+Once {A} x = (r s : A) → r ≡ x → s ≡ x → r ≡ s
 
-abbrev ReferredOnce : Referred → Type 0
-ReferredOnce x = (m n : ℕ) (u v a b : List ℕ) (s t : Tables) → referred m u a s ≡ x → referred n v b t ≡ x → (m ≡ n) × (u ≡ v) × (a ≡ b) × (s ≡ t)
+once : {A : Type 0} (x : A) → Once x
+once x r s p q = p ∙ sym q
 
-abbrev GivenOnce : {C : Type 0} → Given C → Type 0
-GivenOnce {C} x = (m n : ℕ) (u v : C) → given m u ≡ x → given n v ≡ x → (m ≡ n) × (u ≡ v)
+-- a value, with the record's words and the tables on return
+abbrev HeldOnce : {A : Type 0} → Returned A Held → Type 0
+HeldOnce {A} x = (a b : A) (u v : List ℕ) (s t : Tables) → returned a (held u s) ≡ x → returned b (held v t) ≡ x → (a ≡ b) × (u ≡ v) × (s ≡ t)
 
-started-once : (x : Started) → StartedOnce x
-started-once x m n u v s t p q =
+held-once : {A : Type 0} (x : Returned A Held) → HeldOnce x
+held-once x a b u v s t p q =
     let e = p ∙ sym q in
-    (ap (λ z. z .number) e, ap (λ z. z .words) e, ap (λ z. z .tables) e)
+    (ap (λ z. z .value) e, ap (λ z. z .left .words) e, ap (λ z. z .left .tables) e)
 
-referred-once : (x : Referred) → ReferredOnce x
-referred-once x m n u v a b s t p q =
-    let e = p ∙ sym q in
-    (ap (λ z. z .number) e, ap (λ z. z .words) e, ap (λ z. z .answer) e, ap (λ z. z .tables) e)
+pub version-once : Once version
+version-once = once _
 
-given-once : {C : Type 0} (x : Given C) → GivenOnce x
-given-once x m n u v p q =
-    let e = p ∙ sym q in
-    (ap (λ z. z .number) e, ap (λ z. z .words) e)
+pub hash-once : (kind location : ℕ) → Once (hashIn kind location)
+hash-once kind location = once _
 
-pub hash-once : (kind location m n : ℕ) → m ≡ hashIn kind location → n ≡ hashIn kind location → m ≡ n
-hash-once kind location m n p q = p ∙ sym q
+pub setup-once : (asked : Settings) (h : Held) → HeldOnce (setupIn asked h)
+setup-once asked h = held-once _
 
-pub setup-once : (asked : Settings) (words : List ℕ) (tables : Tables) → StartedOnce (setupIn asked words tables)
-setup-once asked words tables = started-once _
+pub restart-once : (h : Held) → HeldOnce (restartIn h)
+restart-once h = held-once _
 
-pub restart-once : (words : List ℕ) (tables : Tables) → StartedOnce (restartIn words tables)
-restart-once words tables = started-once _
+pub refer-once : (location : ℕ) (h : Held) → HeldOnce (referIn location h)
+refer-once location h = held-once _
 
-pub refer-once : (location : ℕ) (words answer : List ℕ) (tables : Tables) → ReferredOnce (referIn location words answer tables)
-refer-once location words answer tables = referred-once _
+pub point-once : (words : List ℕ) (believed : Shape) (number : ℕ) (g : Histogram) → Once (pointIn words believed number g)
+point-once words believed number g = once _
 
-pub point-once : (words : List ℕ) (believed : Shape) (number : ℕ) (g : Histogram) (values : List ℕ)
-    → GivenOnce (pointIn words believed number g values)
-point-once words believed number g values = given-once _
+pub plot-once : (words : List ℕ) (believed : Shape) (number : ℕ) (g : Histogram) → Once (plotIn words believed number g)
+plot-once words believed number g = once _
 
-pub plot-once : (words : List ℕ) (believed : Shape) (number : ℕ) (g : Histogram) (values : List Float)
-    → GivenOnce (plotIn words believed number g values)
-plot-once words believed number g values = given-once _
+pub apply-once : (bytes : List ℕ) (h : Held) → HeldOnce (applyIn bytes h)
+apply-once bytes h = held-once _
 
-pub read-once : (bytes values : List ℕ) → GivenOnce (readIn bytes values)
-read-once bytes values = given-once _
+pub feed-once : (bytes : List ℕ) (h : Held) → HeldOnce (feedIn bytes h)
+feed-once bytes h = held-once _
+
+pub read-once : (bytes : List ℕ) → Once (readIn bytes)
+read-once bytes = once _
 
 -- the four functions that write an event
-pub write-once : (event : Event) (buffer : List ℕ) → GivenOnce (writeIn event buffer)
-write-once event buffer = given-once _
+pub write-once : (event : Event) (buffer u v : List ℕ) {r s : Rattle.words.specs.declared.WrittenWords.WrittenWords}
+    → returned r u ≡ writeIn event buffer → returned s v ≡ writeIn event buffer → (r ≡ s) × (u ≡ v)
+write-once event buffer u v p q =
+    let e = p ∙ sym q in
+    (ap (λ z. z .value) e, ap (λ z. z .left) e)

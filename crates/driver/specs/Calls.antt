@@ -1,105 +1,131 @@
--- The C calls, in terms of the rules. Every call except the hash returns 0 or the number of a refusal. Assumes nothing.
+-- The C calls, in terms of the rules. Assumes nothing.
 use Prim.Native.Nat.{ℕ}
-use mathlib.Core.List.{List}
-use lib.Ieee.{Float}
+use mathlib.Core.Bool.{cond}
+use mathlib.Core.List.{List, [], _∷_, _++_}
+use lib.Dec.{eqb}
+use denote.Ref.{now}
 use Rattle.rules.specs.declared.Settings.{Settings}
-use Rattle.rules.specs.declared.Record.{Record}
 use Rattle.rules.specs.declared.Shape.{Shape}
 use Rattle.rules.specs.declared.SetupBody.{SetupBody}
 use Rattle.rules.specs.declared.Event.{Event}
-use Rattle.rules.specs.Settings.{hashOf, Histogram, Tables}
-use Rattle.rules.specs.Reference.{Reply}
-use Rattle.rules.specs.Answers.{Result, numberOf}
-use Rattle.rules.specs.Order.{Outcome}
+use Rattle.rules.specs.declared.Refusal.the-variants as refusal
+use Rattle.rules.specs.Settings.{hashOf, withDefaults, outOfRange, Histogram, Tables}
+use Rattle.rules.specs.Answers.{Result, refused, gives, number, numberOf, Got}
+use Rattle.rules.specs.Order.{Outcome, outcome, Judged, _when_, byOrder}
 use Rattle.rules.specs.Events.{writeOf, readOf}
-use Rattle.rules.specs.Layout.{Tracker}
-use Rattle.rules.specs.Calls.{setupOf, restartOf, referOf, pointOf, plotOf}
-use Rattle.words.specs.Words.{recordOf, wordsOf, replyWords, pointWords, plotWords, eventWords, orOld}
-use Rattle.driver.specs.declared.AskedSettings.{AskedSettings}
-use Rattle.driver.specs.declared.Believed.{Believed}
+use Rattle.rules.specs.Layout.{Tracker, Lent, tablesBefore, tablesAfter, fresh}
+use Rattle.rules.specs.Calls.{setupOrder, restartOver, referOf, pointOf, plotOf, applyOf}
+use Rattle.feed.specs.Feed.{Feeding, feedOf}
+use Rattle.words.specs.declared.AnswerWords.{AnswerWords}
+use Rattle.words.specs.declared.PointWords.{PointWords}
+use Rattle.words.specs.declared.PlotWords.{PlotWords}
+use Rattle.words.specs.declared.EventWords.{EventWords}
+use Rattle.words.specs.declared.AppliedWords.{AppliedWords}
+use Rattle.words.specs.declared.WrittenWords.{WrittenWords}
+use Rattle.words.specs.declared.FedWords.{FedWords}
+use Rattle.words.specs.Words.{fewWords, recordOf, put, storedIf, Returned, returned, giving}
+use Rattle.words.specs.Words.{answerWords, pointWords, plotWords, eventWords, appliedWords, writtenWords, fedWords}
 
--- ---- what C passes
-
--- the settings asked for, as C passes them
-abbrev pub settingsFrom : AskedSettings → Settings
-settingsFrom g = record { limit = g .limit; start = g .start; width = g .width; buckets = g .buckets; hashing = record { kind = g .kind } }
-
--- the believed shape, as C passes it
-abbrev pub shapeFrom : Believed → Shape
-shapeFrom b = record { buckets = b .buckets; width = b .width }
-
--- the body of a kind 4 event, as C passes it
-abbrev pub setupBodyFrom : (limit start width buckets kind : ℕ) → SetupBody
-setupBodyFrom limit start width buckets kind = record { limit = limit; start = start; width = width; buckets = buckets; kind = kind }
-
--- ---- the calls
+-- the version of the interface
+abbrev pub version : ℕ
+version = 1
 
 -- the hash of a location
 abbrev pub hashIn : (kind location : ℕ) → ℕ
 hashIn kind location = hashOf (record { kind = kind }) location
 
--- what a start leaves: the number returned, the record's words, the tables
-pub record Started : Type 0 where
-  pub number : ℕ
+-- ---- what a caller holds: the words of a record, as many as it lends, and the tables
+
+pub record Held : Type 0 where
   pub words : List ℕ
   pub tables : Tables
 
-abbrev pub started : (number : ℕ) (words : List ℕ) → Tables → Started
-started number words tables = record { number = number; words = words; tables = tables }
+abbrev pub held : (words : List ℕ) → Tables → Held
+held words tables = record { words = words; tables = tables }
 
--- a start, from the outcome that the rules prescribe
-abbrev pub startedBy : Outcome Record Tables → (words : List ℕ) → Started
-startedBy b w = started (numberOf (b .result)) (orOld wordsOf (b .result) w) (b .left)
+-- as it was lent, and as it is on return
+abbrev pub heldBefore : (words locations counts thresholds : Lent) → Held
+heldBefore words locations counts thresholds = held (now (words .entry)) (tablesBefore locations counts thresholds)
 
-abbrev pub setupIn : Settings → (words : List ℕ) → Tables → Started
-setupIn given w t = startedBy (setupOf given t) w
+abbrev pub heldAfter : (words locations counts thresholds : Lent) → Held
+heldAfter words locations counts thresholds = held (now (words .exit)) (tablesAfter locations counts thresholds)
 
-abbrev pub restartIn : (words : List ℕ) → Tables → Started
-restartIn w t = startedBy (restartOf (recordOf w) t) w
+-- the tracker that it stands for
+abbrev pub trackerIn : Held → Tracker
+trackerIn h = record { kept = recordOf (h .words); tables = h .tables }
 
--- what a reference leaves: the number returned, the record's words, the answer's words, the tables
-pub record Referred : Type 0 where
-  pub number : ℕ
-  pub words : List ℕ
-  pub answer : List ℕ
-  pub tables : Tables
+-- ---- what a call returns and leaves, from the outcome that the rules prescribe
 
-abbrev pub referred : (number : ℕ) (words answer : List ℕ) → Tables → Referred
-referred number words answer tables = record { number = number; words = words; answer = answer; tables = tables }
+-- what the call gives, as words
+abbrev pub returning : {A B S : Type 0} → (Result A → B) → Outcome A S → Returned B S
+returning words o = returned (words (o .result)) (o .left)
 
--- a refused reference leaves the words as they were
-abbrev pub keptWords : Outcome Reply Tracker → (words : List ℕ) → List ℕ
-keptWords o w = orOld (λ r. wordsOf (o .left .kept)) (o .result) w
+-- an accepted call stores its record's words; a refused one stores nothing
+abbrev pub keeping : {A : Type 0} → Held → Outcome A Tracker → Outcome A Held
+keeping h o = outcome (o .result) (held (storedIf (eqb (numberOf (o .result)) 0) (o .left .kept) (h .words)) (o .left .tables))
 
--- a reference, from the outcome that the rules prescribe
-abbrev pub stepped : Outcome Reply Tracker → (words answer : List ℕ) → Referred
-stepped o w a = referred (numberOf (o .result)) (keptWords o w) (orOld replyWords (o .result) a) (o .left .tables)
+-- too few words for a record: every call but setup answers 2, before all else
+abbrev pub onHeld : {A : Type 0} → (Tracker → Outcome A Tracker) → Held → Outcome A Held
+onHeld call h = cond (fewWords (h .words)) (outcome (refused 2) h) (keeping h (call (trackerIn h)))
 
-abbrev pub referIn : (location : ℕ) (words answer : List ℕ) → Tables → Referred
-referIn x w a t = stepped (referOf x (record { kept = recordOf w; tables = t })) w a
+abbrev pub onWords : {A : Type 0} → List ℕ → Result A → Result A
+onWords w result = cond (fewWords w) (refused 2) result
 
--- what a call leaves: the number returned, and the words or bytes lent to it
-pub record Given (C : Type 0) : Type 0 where
-  pub number : ℕ
-  pub words : C
+-- ---- starts and references
 
-abbrev pub given : {C : Type 0} → (number : ℕ) (words : C) → Given C
-given number words = record { number = number; words = words }
+-- setup: 1, then 2, for the words as for the tables
+abbrev pub setupInOrder : Settings → Held → List Judged
+setupInOrder given h = setupOrder given (h .tables) ++ (refusal.Tables when fewWords (h .words)) ∷ []
 
-abbrev pub into : {A C : Type 0} → (A → C) → Result A → (words : C) → Given C
-into f s w = given (numberOf s) (orOld f s w)
+abbrev pub setupHeld : Settings → Held → Outcome (Unit {0}) Held
+setupHeld given h =
+    let after = fresh (withDefaults given) (h .tables) in
+    byOrder (setupInOrder given h) tt h (held (put (after .kept) (h .words)) (after .tables))
 
-abbrev pub pointIn : (words : List ℕ) → Shape → (point : ℕ) → Histogram → (values : List ℕ) → Given (List ℕ)
-pointIn w believed k g values = into pointWords (pointOf (recordOf w) believed k g) values
+-- where the words are too few
+abbrev pub fewForSetup : Settings → ℕ
+fewForSetup given = cond (outOfRange (withDefaults given)) (number refusal.Settings) (number refusal.Tables)
 
-abbrev pub plotIn : (words : List ℕ) → Shape → (point : ℕ) → Histogram → (values : List Float) → Given (List Float)
-plotIn w believed k g values = into plotWords (plotOf (recordOf w) believed k g) values
+abbrev pub setupIn : Settings → Held → Returned ℕ Held
+setupIn given h = returning numberOf (setupHeld given h)
 
-abbrev pub readIn : (bytes values : List ℕ) → Given (List ℕ)
-readIn bytes values = into eventWords (readOf bytes) values
+abbrev pub restartIn : Held → Returned ℕ Held
+restartIn h = returning numberOf (onHeld restartOver h)
 
-abbrev pub written : Outcome ℕ (List ℕ) → Given (List ℕ)
-written f = given (numberOf (f .result)) (f .left)
+abbrev pub referIn : (location : ℕ) → Held → Returned AnswerWords Held
+referIn x h = returning answerWords (onHeld (referOf x) h)
 
-abbrev pub writeIn : Event → (buffer : List ℕ) → Given (List ℕ)
-writeIn e buffer = written (writeOf e buffer)
+-- ---- points
+
+abbrev pub pointIn : (words : List ℕ) → Shape → (point : ℕ) → Histogram → PointWords
+pointIn w believed k g = pointWords (onWords w (pointOf (recordOf w) believed k g))
+
+abbrev pub plotIn : (words : List ℕ) → Shape → (point : ℕ) → Histogram → PlotWords
+plotIn w believed k g = plotWords (onWords w (plotOf (recordOf w) believed k g))
+
+-- ---- trace events
+
+-- an event that was read, applied; it gives the number of bytes that the event took
+abbrev pub applyGot : Result Got → Tracker → Outcome ℕ Tracker
+applyGot (refused n) s = outcome (refused n) s
+applyGot (gives g) s = outcome (giving (g .taken) (applyOf (g .event) s .result)) (applyOf (g .event) s .left)
+
+abbrev pub applyIn : (bytes : List ℕ) → Held → Returned AppliedWords Held
+applyIn bytes h = returning appliedWords (onHeld (applyGot (readOf bytes)) h)
+
+-- what the events before a refused one did stays
+abbrev pub fedIn : Held → Feeding → Returned FedWords Held
+fedIn h f = returned (fedWords (f .taken) (f .result)) (held (put (f .left .kept) (h .words)) (f .left .tables))
+
+abbrev pub feedIn : (bytes : List ℕ) → Held → Returned FedWords Held
+feedIn bytes h = cond (fewWords (h .words)) (returned (fedWords 0 (refused 2)) h) (fedIn h (feedOf bytes (trackerIn h)))
+
+abbrev pub readIn : (bytes : List ℕ) → EventWords
+readIn bytes = eventWords (readOf bytes)
+
+-- the body of a kind 4 event, as C passes it
+abbrev pub setupBodyFrom : (limit start width buckets kind : ℕ) → SetupBody
+setupBodyFrom limit start width buckets kind = record { limit = limit; start = start; width = width; buckets = buckets; kind = kind }
+
+abbrev pub writeIn : Event → (buffer : List ℕ) → Returned WrittenWords (List ℕ)
+writeIn e buffer = returning writtenWords (writeOf e buffer)

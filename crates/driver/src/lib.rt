@@ -1,65 +1,54 @@
-// The C interface; include/rockgingham.h documents it for C programmers. Every function accepts any values. Every function except the
-// hash returns 0 or the number of a refusal; a refused call changes no word, table or byte.
+// The C interface; include/rockgingham.h documents it for C programmers. Every function accepts any values. Every call but the hash and the
+// version returns a refusal, 0 if it was accepted, alone or as the first field of what it gives. A refused call stores nothing, except that
+// feed keeps what the events before the refused one did.
+use feed::Ending;
+use refer::Skipping;
 use rules::Answer;
 use rules::Event;
 use rules::Hashing;
+use rules::Plotted;
+use rules::Pointed;
 use rules::Reading;
+use rules::Refusal;
 use rules::Settings;
 use rules::SetupBody;
-use rules::Shape;
+use rules::Taken;
+use words::AnswerWords;
+use words::AppliedWords;
+use words::AskedSettings;
+use words::Believed;
+use words::EventWords;
+use words::FedWords;
+use words::PlotWords;
+use words::PointWords;
+use words::WrittenWords;
 use words::answer_words;
+use words::applied_words;
 use words::event_words;
-use words::kept_words;
-use words::number_answered;
-use words::number_plotted;
-use words::number_pointed;
-use words::number_started;
-use words::number_written;
+use words::fed_words;
 use words::plot_words;
 use words::point_words;
 use words::record_of;
-use words::started_words;
+use words::settings_from;
+use words::shape_from;
+use words::store_if;
+use words::store_started;
+use words::too_few;
+use words::written_words;
 ghost use mathlib.Core.Path.{_≡_};
-ghost use Rattle.rules.specs.Layout.{tablesBefore, bucketsBefore, tablesAfter};
-ghost use Rattle.driver.specs.Calls.{settingsFrom, shapeFrom, setupBodyFrom, started, referred, given};
-ghost use Rattle.driver.specs.Calls.{hashIn, setupIn, restartIn, referIn, pointIn, plotIn, readIn, writeIn};
+ghost use Rattle.rules.specs.Layout.{bucketsBefore};
+ghost use Rattle.words.specs.Words.{settingsFrom, shapeFrom, returned};
+ghost use Rattle.driver.specs.Calls.{version, heldBefore, heldAfter, setupBodyFrom, fewForSetup};
+ghost use Rattle.driver.specs.Calls.{hashIn, setupIn, restartIn, referIn, pointIn, plotIn, applyIn, feedIn, readIn, writeIn};
 
-// The settings asked for. A zero stands for the default, except for the hash kind.
-#[repr(C)]
-pub struct AskedSettings {
-    pub limit: u64,
-    pub start: u64,
-    pub width: u64,
-    pub buckets: u64,
-    pub kind: u64,
-}
+// The version of this interface. It is part of the exported names of setup, apply and feed: the calls that make a record.
+const VERSION: u64 = 1;
 
-// The shape that the caller believes the curve to have.
-#[repr(C)]
-pub struct Believed {
-    pub buckets: u64,
-    pub width: u64,
-}
-
-fn settings_from(asked: AskedSettings) -> Settings
-    ensures { λ r. ⌜ r ≡ settingsFrom asked ⌝ }
+#[no_mangle]
+pub extern "C" fn rockgingham_version() -> u64
+    ensures { λ r. ⌜ r ≡ version ⌝ }
 {
-    Settings {
-        limit: asked.limit,
-        start: asked.start,
-        width: asked.width,
-        buckets: asked.buckets,
-        hashing: Hashing { kind: asked.kind },
-    }
-}
-
-fn shape_from(believed: Believed) -> Shape
-    ensures { λ r. ⌜ r ≡ shapeFrom believed ⌝ }
-{
-    Shape {
-        buckets: believed.buckets,
-        width: believed.width,
-    }
+    VERSION
 }
 
 // The hash of a location: for kind 0 the location modulo 2^24, for any other kind its finaliser modulo 2^24.
@@ -70,135 +59,207 @@ pub extern "C" fn rockgingham_hash(kind: u64, location: u64) -> u64
     hash::hash_of(Hashing { kind }, location)
 }
 
+// ---- starts and references
+
+// Why a setup is refused whose record has too few words: 1 comes before 2.
+fn few_for_setup(settings: Settings) -> u64
+    ensures { λ r. ⌜ r ≡ fewForSetup settings ⌝ }
+{
+    if judge::out_of_range(setup::with_defaults(settings)) {
+        return judge::number_of(Refusal::Settings);
+    }
+    judge::number_of(Refusal::Tables)
+}
+
 // A fresh start with these settings.
 #[no_mangle]
-pub extern "C" fn rockgingham_setup(
-    words: &mut [u64; 9],
+pub extern "C" fn rockgingham_setup_v1(
+    words: &mut [u64],
     asked: AskedSettings,
     locations: &[u64],
     counts: &mut [u64],
     thresholds: &mut [u32],
 ) -> u64
-    ensures { λ r. ⌜ started r (now (words .exit)) (tablesAfter locations counts thresholds)
-        ≡ setupIn (settingsFrom asked) (now (words .entry)) (tablesBefore locations counts thresholds) ⌝ }
+    ensures { λ r. ⌜ returned r (heldAfter words locations counts thresholds)
+        ≡ setupIn (settingsFrom asked) (heldBefore words locations counts thresholds) ⌝ }
 {
-    let answer = setup::setup(settings_from(asked), locations, counts, thresholds);
-    *words = started_words(answer, *words);
-    number_started(answer)
+    let settings = settings_from(asked);
+    if too_few(words) {
+        return few_for_setup(settings);
+    }
+    let started = setup::setup(settings, locations, counts, thresholds);
+    store_started(words, started)
 }
 
 // A fresh start with the record's own settings.
 #[no_mangle]
 pub extern "C" fn rockgingham_restart(
-    words: &mut [u64; 9],
+    words: &mut [u64],
     locations: &[u64],
     counts: &mut [u64],
     thresholds: &mut [u32],
 ) -> u64
-    ensures { λ r. ⌜ started r (now (words .exit)) (tablesAfter locations counts thresholds)
-        ≡ restartIn (now (words .entry)) (tablesBefore locations counts thresholds) ⌝ }
+    ensures { λ r. ⌜ returned r (heldAfter words locations counts thresholds)
+        ≡ restartIn (heldBefore words locations counts thresholds) ⌝ }
 {
-    let answer = setup::restart(record_of(*words), locations, counts, thresholds);
-    *words = started_words(answer, *words);
-    number_started(answer)
+    if too_few(words) {
+        return judge::number_of(Refusal::Tables);
+    }
+    let started = setup::restart(record_of(words), locations, counts, thresholds);
+    store_started(words, started)
 }
 
-// One reference. The answer's words: 0 Skipped, 1 Again with the place, 2 First.
+// One reference. The answer: 0 Skipped, 1 Again with the distance, 2 First.
 #[no_mangle]
 pub extern "C" fn rockgingham_refer(
-    words: &mut [u64; 9],
-    answer: &mut [u64; 2],
+    words: &mut [u64],
     location: u64,
     locations: &mut [u64],
     counts: &mut [u64],
     thresholds: &mut [u32],
-) -> u64
-    ensures { λ r. ⌜ referred r (now (words .exit)) (now (answer .exit)) (tablesAfter locations counts thresholds)
-        ≡ referIn location (now (words .entry)) (now (answer .entry)) (tablesBefore locations counts thresholds) ⌝ }
+) -> AnswerWords
+    ensures { λ r. ⌜ returned r (heldAfter words locations counts thresholds)
+        ≡ referIn location (heldBefore words locations counts thresholds) ⌝ }
 {
-    let r = refer::refer(record_of(*words), location, locations, counts, thresholds);
-    let reply = r.answer;
-    let kept = r.kept;
-    if let Answer::Refused(why) = reply {
-        return judge::number_of(why);
+    if too_few(words) {
+        return answer_words(Answer::Refused(Refusal::Tables));
     }
-    *words = kept_words(reply, kept, *words);
-    *answer = answer_words(reply, *answer);
-    number_answered(reply)
+    let kept = record_of(words);
+    if let Skipping::Counted(after) = refer::skip(kept, location, locations, counts, thresholds) {
+        store_if(words, true, after);
+        return answer_words(Answer::Skipped);
+    }
+    let referred = refer::refer(record_of(words), location, locations, counts, thresholds);
+    let reply = referred.answer;
+    let given = answer_words(reply);
+    store_if(words, given.refusal == 0, referred.kept);
+    given
 }
+
+// ---- points
 
 // A point: its size, hits, misses and total.
 #[no_mangle]
 pub extern "C" fn rockgingham_point(
-    words: &[u64; 9],
-    point: &mut [u64; 4],
+    words: &[u64],
     believed: Believed,
     number: u64,
     counts: &[u64],
     thresholds: &[u32],
-) -> u64
-    ensures { λ r. ⌜ given r (now (point .exit))
-        ≡ pointIn (now (words .entry)) (shapeFrom believed) number (bucketsBefore counts thresholds) (now (point .entry)) ⌝ }
+) -> PointWords
+    ensures { λ r. ⌜ r ≡ pointIn (now (words .entry)) (shapeFrom believed) number (bucketsBefore counts thresholds) ⌝ }
 {
+    if too_few(words) {
+        return point_words(Pointed::Refused(Refusal::Tables));
+    }
     let shape = shape_from(believed);
-    let answer = points::point(record_of(*words), shape, number, counts, thresholds);
-    *point = point_words(answer, *point);
-    number_pointed(answer)
+    point_words(points::point(record_of(words), shape, number, counts, thresholds))
 }
 
 // The same point as a pair of doubles: the size, and misses divided by total.
 #[no_mangle]
 pub extern "C" fn rockgingham_plot(
-    words: &[u64; 9],
-    pair: &mut [f64; 2],
+    words: &[u64],
     believed: Believed,
     number: u64,
     counts: &[u64],
     thresholds: &[u32],
-) -> u64
-    ensures { λ r. ⌜ given r (now (pair .exit))
-        ≡ plotIn (now (words .entry)) (shapeFrom believed) number (bucketsBefore counts thresholds) (now (pair .entry)) ⌝ }
+) -> PlotWords
+    ensures { λ r. ⌜ r ≡ plotIn (now (words .entry)) (shapeFrom believed) number (bucketsBefore counts thresholds) ⌝ }
 {
+    if too_few(words) {
+        return plot_words(Plotted::Refused(Refusal::Tables));
+    }
     let shape = shape_from(believed);
-    let answer = points::plot_point(record_of(*words), shape, number, counts, thresholds);
-    *pair = plot_words(answer, *pair);
-    number_plotted(answer)
+    plot_words(points::plot_point(record_of(words), shape, number, counts, thresholds))
 }
 
-// The first event of the bytes: its kind, the number of bytes it took, and the numbers of its body.
+// ---- trace events
+
+// Applies the first event of the bytes, by feeding that event alone: `apply`, called from `feed` only, is compiled into its loop.
 #[no_mangle]
-pub extern "C" fn rockgingham_read(event: &mut [u64; 7], bytes: &[u8]) -> u64
-    ensures { λ r. ⌜ given r (now (event .exit)) ≡ readIn (now (bytes .entry)) (now (event .entry)) ⌝ }
+pub extern "C" fn rockgingham_apply_v1(
+    words: &mut [u64],
+    bytes: &[u8],
+    locations: &mut [u64],
+    counts: &mut [u64],
+    thresholds: &mut [u32],
+) -> AppliedWords
+    ensures { λ r. ⌜ returned r (heldAfter words locations counts thresholds)
+        ≡ applyIn (now (bytes .entry)) (heldBefore words locations counts thresholds) ⌝ }
 {
-    match reading::read(bytes) {
-        Reading::Got(e, taken) => {
-            *event = event_words(e, taken);
-            0
-        }
-        Reading::Refused(why) => judge::number_of(why),
+    if too_few(words) {
+        return applied_words(Taken::Refused(Refusal::Tables), 0);
     }
+    match reading::read(bytes) {
+        Reading::Got(_, taken) => {
+            let event = &bytes[..taken];
+            let fed = feed::feed(record_of(words), event, locations, counts, thresholds);
+            let ending = fed.ending;
+            let given = fed_words(fed.taken, ending);
+            store_if(words, fed.taken != 0, fed.kept);
+            AppliedWords {
+                refusal: given.refusal,
+                taken: given.taken,
+            }
+        }
+        Reading::Refused(why) => applied_words(Taken::Refused(why), 0),
+    }
+}
+
+// Applies event after event, until the bytes end, end inside an event, or an event is refused.
+#[no_mangle]
+pub extern "C" fn rockgingham_feed_v1(
+    words: &mut [u64],
+    bytes: &[u8],
+    locations: &mut [u64],
+    counts: &mut [u64],
+    thresholds: &mut [u32],
+) -> FedWords
+    ensures { λ r. ⌜ returned r (heldAfter words locations counts thresholds)
+        ≡ feedIn (now (bytes .entry)) (heldBefore words locations counts thresholds) ⌝ }
+{
+    if too_few(words) {
+        return fed_words(0, Ending::Refused(Refusal::Tables));
+    }
+    let fed = feed::feed(record_of(words), bytes, locations, counts, thresholds);
+    let ending = fed.ending;
+    store_if(words, fed.taken != 0, fed.kept);
+    fed_words(fed.taken, ending)
+}
+
+// The first event of the bytes: its kind, how many bytes it took, and its numbers.
+#[no_mangle]
+pub extern "C" fn rockgingham_read(bytes: &[u8]) -> EventWords
+    ensures { λ r. ⌜ r ≡ readIn (now (bytes .entry)) ⌝ }
+{
+    event_words(reading::read(bytes))
 }
 
 // Each kind of event has its own function for writing, whose parameters can hold only what the event can.
 #[no_mangle]
-pub extern "C" fn rockgingham_write_location(location: u64, buffer: &mut [u8]) -> u64
-    ensures { λ r. ⌜ given r (now (buffer .exit)) ≡ writeIn (Event.Location location) (now (buffer .entry)) ⌝ }
+pub extern "C" fn rockgingham_write_location(location: u64, buffer: &mut [u8]) -> WrittenWords
+    ensures { λ r. ⌜ returned r (now (buffer .exit)) ≡ writeIn (Event.Location location) (now (buffer .entry)) ⌝ }
 {
-    number_written(writing::write(Event::Location(location), buffer))
+    written_words(writing::write(Event::Location(location), buffer))
 }
 
 #[no_mangle]
-pub extern "C" fn rockgingham_write_span(offset: u64, length: u32, buffer: &mut [u8]) -> u64
-    ensures { λ r. ⌜ given r (now (buffer .exit)) ≡ writeIn (Event.Span offset length) (now (buffer .entry)) ⌝ }
+pub extern "C" fn rockgingham_write_span(
+    offset: u64,
+    length: u32,
+    buffer: &mut [u8],
+) -> WrittenWords
+    ensures { λ r. ⌜ returned r (now (buffer .exit)) ≡ writeIn (Event.Span offset length) (now (buffer .entry)) ⌝ }
 {
-    number_written(writing::write(Event::Span { offset, length }, buffer))
+    written_words(writing::write(Event::Span { offset, length }, buffer))
 }
 
 #[no_mangle]
-pub extern "C" fn rockgingham_write_restart(buffer: &mut [u8]) -> u64
-    ensures { λ r. ⌜ given r (now (buffer .exit)) ≡ writeIn Event.Restart (now (buffer .entry)) ⌝ }
+pub extern "C" fn rockgingham_write_restart(buffer: &mut [u8]) -> WrittenWords
+    ensures { λ r. ⌜ returned r (now (buffer .exit)) ≡ writeIn Event.Restart (now (buffer .entry)) ⌝ }
 {
-    number_written(writing::write(Event::Restart, buffer))
+    written_words(writing::write(Event::Restart, buffer))
 }
 
 #[no_mangle]
@@ -209,8 +270,8 @@ pub extern "C" fn rockgingham_write_setup(
     buckets: u32,
     kind: u8,
     buffer: &mut [u8],
-) -> u64
-    ensures { λ r. ⌜ given r (now (buffer .exit))
+) -> WrittenWords
+    ensures { λ r. ⌜ returned r (now (buffer .exit))
         ≡ writeIn (Event.Setup (setupBodyFrom limit start width buckets kind)) (now (buffer .entry)) ⌝ }
 {
     let body = SetupBody {
@@ -220,5 +281,5 @@ pub extern "C" fn rockgingham_write_setup(
         buckets,
         kind,
     };
-    number_written(writing::write(Event::Setup(body), buffer))
+    written_words(writing::write(Event::Setup(body), buffer))
 }

@@ -84,6 +84,12 @@ abbrev pub startedOver : Record → Result Record → Tables → Outcome (Unit {
 startedOver kept (refused n) t = outcome (refused n) (record { kept = kept; tables = t })
 startedOver kept (gives r) t = outcome (gives tt) (record { kept = r; tables = t })
 
+abbrev pub setupOver : Settings → Tracker → Outcome (Unit {0}) Tracker
+setupOver given s = startedOver (s .kept) (setupOf given (s .tables) .result) (setupOf given (s .tables) .left)
+
+abbrev pub restartOver : Tracker → Outcome (Unit {0}) Tracker
+restartOver s = startedOver (s .kept) (restartOf (s .kept) (s .tables) .result) (restartOf (s .kept) (s .tables) .left)
+
 -- after a reference that was refused nothing more is done
 abbrev pub goingOn : Result Reply → Tracker → Outcome (Unit {0}) Tracker → Outcome (Unit {0}) Tracker
 goingOn (refused n) s rest = outcome (refused n) s
@@ -98,5 +104,5 @@ referAll (x ∷ xs) s = goingOn (referOf x s .result) (referOf x s .left) (refer
 unfoldable pub applyOf : Event → Tracker → Outcome (Unit {0}) Tracker
 applyOf (Location x) s = referAll (referencesOf (Location x)) s
 applyOf (Span offset bytes) s = referAll (referencesOf (Span offset bytes)) s
-applyOf Restart s = startedOver (s .kept) (restartOf (s .kept) (s .tables) .result) (restartOf (s .kept) (s .tables) .left)
-applyOf (Setup b) s = startedOver (s .kept) (setupOf (settingsOf b) (s .tables) .result) (setupOf (settingsOf b) (s .tables) .left)
+applyOf Restart s = restartOver s
+applyOf (Setup b) s = setupOver (settingsOf b) s

@@ -2,14 +2,18 @@
 use Prim.Native.Nat.{ℕ}
 use mathlib.Core.Path.{_≡_, sym, ap, _∙_}
 use mathlib.Core.List.{List}
+use Rattle.rules.specs.declared.Settings.{Settings}
 use Rattle.rules.specs.declared.Record.{Record}
 use Rattle.rules.specs.declared.Started.{Started}
-use Rattle.rules.specs.Settings.{Tables}
+use Rattle.rules.specs.Settings.{Tables, withDefaults}
 use Rattle.rules.specs.Answers.{startedResult}
 use Rattle.rules.specs.Order.{outcome, Outcome}
 use Rattle.rules.specs.Layout.{tablesOf}
 use Rattle.rules.proofs.Tables.{each-same}
 use Rattle.rules.proofs.Answers.{started-injective}
+
+pub with-defaults-once : (given r r' : Settings) → r ≡ withDefaults given → r' ≡ withDefaults given → r ≡ r'
+with-defaults-once given r r' p q = p ∙ sym q
 
 -- setup and restart, by what their definition gives for what they were handed
 pub started-once : (ls cs ts ls' cs' ts' : List ℕ) (b : Outcome Record Tables) (r r' : Started)

@@ -26,7 +26,8 @@ fn or_default(setting: u64, default: u64) -> u64
     if setting == 0 { default } else { setting }
 }
 
-fn with_defaults(given: Settings) -> Settings
+// The settings with the defaults in place of zeros.
+pub fn with_defaults(given: Settings) -> Settings
     ensures { λ r. ⌜ r ≡ withDefaults given ⌝ }
 {
     let hashing = given.hashing;

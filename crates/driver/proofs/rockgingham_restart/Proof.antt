@@ -1,11 +1,23 @@
--- The record is the words' own, so the call is `restart` of it; what is left follows by `began`.
-use Rattle.driver.proofs.Laws.{began}
+-- Words that are too few are refused; else the call is `restart` of the words' own record, and what it answers is stored.
+use mathlib.Core.Path.{sym, _∙_}
+use Rattle.rules.specs.Answers.{numberOf}
+use Rattle.rules.specs.Calls.{restartOver}
+use Rattle.driver.proofs.Laws.{too-few, restart-stored}
+use borrow.Author.Needs.{needs}
 use Rattle.driver.proofs.rockgingham_restart.Statement.{statement}
 use Rattle.driver.proofs.rockgingham_restart.Tie as tie
 
--- where `restart` was called
-abbrev called : tie.After-number-started → tie.After-restart
-called c = c .before .before .before .before .before .before .before
+too-few-requires : tie.Need-too-few-requires
+too-few-requires c κs = tt
+
+number-of-requires : tie.Need-number-of-requires
+number-of-requires c κs = tt
+
+same-length : tie.Need-same-length
+same-length c = search needs
+
+returns : tie.Need-returns
+returns c = too-few numberOf restartOver _ (sym (c .before .before .too-few .ensures) ∙ c .before .if1 .taken) (c .number-of .ensures)
 
 record-of-requires : tie.Need-record-of-requires
 record-of-requires c κs = tt
@@ -13,32 +25,37 @@ record-of-requires c κs = tt
 restart-requires : tie.Need-restart-requires
 restart-requires c κs = tt
 
-started-words-requires : tie.Need-started-words-requires
-started-words-requires c κs = tt
-
-number-started-requires : tie.Need-number-started-requires
-number-started-requires c κs = tt
-
-same-length : tie.Need-same-length
-same-length c = called c .restart .kept .1 .1 .0
+store-started-requires : tie.Need-store-started-requires
+store-started-requires c κs = tt
 
 same-length-2 : tie.Need-same-length-2
-same-length-2 c = called c .restart .kept .1 .1 .1 .0
+same-length-2 c = search needs
 
-returns : tie.Need-returns
-returns c =
-    let done = c .before .before .before .before .before .before .before in
-    began _ (rw (done .before .before .before .record-of .ensures) at (done .restart .ensures))
-    (c .number-started .ensures) (c .before .started-words .ensures)
+same-length-3 : tie.Need-same-length-3
+same-length-3 c = search needs
+
+same-length-4 : tie.Need-same-length-4
+same-length-4 c = search needs
+
+returns-2 : tie.Need-returns-2
+returns-2 c =
+    let called = c .before .before .before .before .before .before .before .before in
+    let judged = called .before .before .before .before .before .before in
+    restart-stored _ (sym (judged .too-few .ensures) ∙ called .before .before .before .before .before .if1 .left)
+    (rw (called .before .before .before .record-of .ensures) at (called .restart .ensures)) (c .before .before .store-started .ensures)
 
 pub rockgingham-restart-spec : {M : Type 1} → statement M
 rockgingham-restart-spec =
     tie.close
     (tie.spec
+    too-few-requires
+    number-of-requires
+    same-length
+    returns
     record-of-requires
     restart-requires
-    started-words-requires
-    number-started-requires
-    same-length
+    store-started-requires
     same-length-2
-    returns)
+    same-length-3
+    same-length-4
+    returns-2)

@@ -1,0 +1,84 @@
+//! Random events, and bytes that hold them.
+
+use crate::model::{Event, Tracker, P};
+use crate::random::Random;
+use crate::trackers::some_reference;
+
+pub fn some_event(random: &mut Random) -> Event {
+    match random.below(4) {
+        0 => Event::Location(random.any()),
+        1 => Event::Span(random.any(), random.any() as u32),
+        2 => Event::Restart,
+        _ => {
+            let mut word = || random.any() as u32;
+            Event::Setup(word(), word(), word(), word(), word() as u8)
+        }
+    }
+}
+
+pub fn unknown_kind(random: &mut Random) -> u8 {
+    match random.below(4) {
+        0 => 0,
+        1 => 5,
+        _ => random.between(5, 255) as u8,
+    }
+}
+
+/// A span of at least one byte, in the block that is this location, if there is one.
+pub fn span_to(random: &mut Random, location: u64) -> Event {
+    let offset = location.wrapping_mul(4096) + random.below(4096);
+    Event::Span(offset, random.between(1, 20_000) as u32)
+}
+
+/// A setup for which the tracker's tables are often long enough.
+fn fitting_setup(random: &mut Random, tracker: &Tracker) -> Event {
+    let counts = tracker.counts.len().min(tracker.thresholds.len());
+    let mut up_to = |most: usize| random.between(1, most.max(1) as u64) as u32;
+    let limit = up_to(tracker.locations.len());
+    let buckets = up_to(counts.saturating_sub(2));
+    let start = random.pick(&[1, 16, 1000, P as u32, P as u32]);
+    let width = random.between(0, 3) as u32;
+    Event::Setup(limit, start, width, buckets, random.below(2) as u8)
+}
+
+/// An event that the tracker often accepts.
+fn likely_event(random: &mut Random, tracker: &Tracker) -> Event {
+    let location = some_reference(random, tracker);
+    match random.below(24) {
+        0 => Event::Restart,
+        1 => fitting_setup(random, tracker),
+        2 => some_event(random),
+        3..=5 => Event::Span(random.any(), 0),
+        6..=9 => span_to(random, location),
+        _ => Event::Location(location),
+    }
+}
+
+/// Bytes whose first event the tracker often accepts.
+pub fn first_event(random: &mut Random, tracker: &Tracker) -> Vec<u8> {
+    let mut bytes = likely_event(random, tracker).bytes();
+    match random.below(6) {
+        0 => bytes.truncate(random.below(bytes.len() as u64 + 1) as usize),
+        1 => bytes[0] = unknown_kind(random),
+        2 | 3 => bytes.extend(some_event(random).bytes()),
+        _ => {}
+    }
+    bytes
+}
+
+/// Up to so many events that the tracker often accepts, sometimes cut, and sometimes with an unknown kind behind them.
+pub fn some_trace(random: &mut Random, tracker: &Tracker, most: u64) -> Vec<u8> {
+    let mut bytes = Vec::new();
+    for _ in 0..random.between(0, most) {
+        bytes.extend(likely_event(random, tracker).bytes());
+    }
+    match random.below(6) {
+        0 | 1 => bytes.truncate(random.below(bytes.len() as u64 + 1) as usize),
+        2 => {
+            bytes.push(unknown_kind(random));
+            bytes.extend(some_event(random).bytes());
+        }
+        _ => {}
+    }
+    bytes
+}
