@@ -1,2 +1,3 @@
 pub mod Laws
+pub mod Driven
 pub mod Unique

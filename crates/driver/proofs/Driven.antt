@@ -1,0 +1,520 @@
+-- What a C caller holds and gets. A call on the words is the rules' call on their record (`OnHeld`), and each call of the rules either accepts or
+-- leaves everything and has a number that is not 0 (`Sound`); the statements follow from the two. Assumes nothing.
+use Prim.Native.Nat.{ℕ}
+use mathlib.Core.Path.{_≡_, refl, sym, ap, subst, _∙_}
+use mathlib.Core.Bool.{Bool, true, false, cond}
+use mathlib.Core.List.{List, [], _∷_}
+use native.Mathlib.Omega.{arith}
+use lib.Dec.{ltb, eqb}
+use lib.ListN.{length, take, drop}
+use Rattle.rules.specs.declared.Settings.{Settings}
+use Rattle.rules.specs.declared.Record.{Record}
+use Rattle.rules.specs.declared.Shape.{Shape}
+use Rattle.rules.specs.declared.Point.{Point}
+use Rattle.rules.specs.declared.PlotPoint.{PlotPoint}
+use Rattle.rules.specs.declared.Event.{Event}
+use Rattle.rules.specs.declared.Event.the-variants as event
+use Rattle.rules.specs.Lists.{over}
+use Rattle.rules.specs.Settings.{Histogram, Tables, withDefaults, outOfRange}
+use Rattle.rules.specs.Reference.{Reply, skipped, first, again}
+use Rattle.rules.specs.Answers.{Result, refused, gives, numberOf, Got}
+use Rattle.rules.specs.Order.{Outcome, outcome, Judged, says, leaves, NoneHolds}
+use Rattle.rules.specs.Events.{eventBytes, eventLength, readOf, readOrder, writeOf, writeOrder}
+use Rattle.rules.specs.Layout.{Tracker, freshRecord, freshTables, fresh}
+use Rattle.rules.specs.Conditions.{tooShort}
+use Rattle.rules.specs.Calls.{setupOf, setupOrder, restartOf, restartOrder, startedOver, restartOver, stepOf, referOf, referOrder, pointOf, pointOrder}
+use Rattle.rules.specs.Calls.{plotOf, applyOf}
+use Rattle.rules.specs.History.{Reference}
+use Rattle.rules.proofs.Tests.{cases, clash}
+use Rattle.rules.proofs.Order.{not-both, says-given, says-accepted, says-some, leaves-was}
+use Rattle.rules.proofs.Calls.{Begins, setup-accept, setup-begins, restart-either, refer-either, refer-accept, plotted, plot-is}
+use Rattle.demands.specs.Runs.{Run, setup, restart, refer}
+use Rattle.demands.specs.Statements.{historyReply}
+use Rattle.demands.proofs.Refusing.{apply-some, stale-by-name}
+use Rattle.demands.proofs.Tracking.{threshold, live-list, numbers, whole-answers}
+use Rattle.demands.proofs.Points.{full-rate}
+use Rattle.feed.specs.Feed.{End, whole, inside, Feeding, feedOf, justTaken}
+use Rattle.feed.specs.Past.{pastAfter, pastOf, freshStart, Events, none, Ran}
+use Rattle.feed.proofs.Laws.{taking, Took, apply-either, by-feeding}
+use Rattle.feed.proofs.Pieces.{taken-alone}
+use Rattle.feed.proofs.Runs.{ran}
+use Rattle.words.specs.Words.{fewWords, recordOf, wordsOf, put, storedIf, Returned, returned, answerWords, pointWords, plotWords, eventWords}
+use Rattle.words.specs.Words.{gotWords, appliedWords, writtenWords, fedWords, giving}
+use Rattle.words.proofs.Laws.{put-same, put-length, record-of-put}
+use Rattle.driver.specs.Calls.{Held, held, trackerIn, returning, keeping, onHeld, onWords, setupInOrder, setupHeld, setupIn, fewForSetup}
+use Rattle.driver.specs.Calls.{restartIn, referIn, pointIn, plotIn, applyGot, applyIn, fedIn, feedIn, readIn, writeIn}
+use Rattle.driver.specs.Driven.{Accepted, Taken, ZeroWhen, ZeroIsAccepted, LeftAsItWas, FedAlone, TooFew, SamePast, PastTheRecord, StaleByNumber}
+use Rattle.driver.specs.Driven.{HoldsRun, FedRun, CallsAreARun, ThresholdIn, LiveListIn, ReferencesIn, LikeLruIn, FullRateIn}
+use Rattle.driver.proofs.Laws.{answer-number, stored-same, setup-few}
+
+-- ---- a result, by its number
+
+result-cases : {A C : Type 0} (s : Result A) → ((a : A) → s ≡ gives a → C) → ((n : ℕ) → s ≡ refused n → C) → C
+result-cases (refused n) f g = g n refl
+result-cases (gives a) f g = f a refl
+
+accepted-zero : {A : Type 0} (s : Result A) → Accepted s → numberOf s ≡ 0
+accepted-zero (gives a) t = refl
+accepted-zero (refused n) b = absurd b
+
+zero-accepted : {A : Type 0} (s : Result A) → (s ≡ refused 0 → ⊥) → numberOf s ≡ 0 → Accepted s
+zero-accepted (gives a) never z = tt
+zero-accepted (refused n) never z = absurd (never (ap refused z))
+
+zero-when : {A : Type 0} (s : Result A) → (s ≡ refused 0 → ⊥) → ZeroWhen (numberOf s) (Accepted s)
+zero-when s never = (zero-accepted s never, accepted-zero s)
+
+zero-by : {n m : ℕ} {P : Type 0} → n ≡ m → ZeroWhen m P → ZeroWhen n P
+zero-by e w = ((λ z. w .0 (sym e ∙ z)), (λ p. e ∙ w .1 p))
+
+-- the refusal stands first in each struct
+point-number : (s : Result Point) → pointWords s .refusal ≡ numberOf s
+point-number (refused n) = refl
+point-number (gives p) = refl
+
+plot-number : (s : Result PlotPoint) → plotWords s .refusal ≡ numberOf s
+plot-number (refused n) = refl
+plot-number (gives p) = refl
+
+event-number : (s : Result Got) → eventWords s .refusal ≡ numberOf s
+event-number (refused n) = refl
+event-number (gives g) = by (g .event)
+  where
+    by : (e : Event) → gotWords e (g .taken) .refusal ≡ 0
+    by (event.Location x) = refl
+    by (event.Span offset n) = refl
+    by event.Restart = refl
+    by (event.Setup b) = refl
+
+applied-number : (s : Result ℕ) → appliedWords s .refusal ≡ numberOf s
+applied-number (refused n) = refl
+applied-number (gives n) = refl
+
+written-number : (s : Result ℕ) → writtenWords s .refusal ≡ numberOf s
+written-number (refused n) = refl
+written-number (gives n) = refl
+
+fed-number : (n : ℕ) (s : Result End) → fedWords n s .refusal ≡ numberOf s
+fed-number n (refused m) = refl
+fed-number n (gives whole) = refl
+fed-number n (gives inside) = refl
+
+fed-taken : (n : ℕ) (s : Result End) → fedWords n s .taken ≡ n
+fed-taken n (refused m) = refl
+fed-taken n (gives whole) = refl
+fed-taken n (gives inside) = refl
+
+-- ---- each call of the rules either accepts or leaves everything, with a number that is not 0
+
+data Sound {A : Type 0} (o : Outcome A Tracker) (s : Tracker) : Type 0 where
+  accepts : (a : A) → o .result ≡ gives a → Sound o s
+  refuses : (n : ℕ) → (n ≡ 0 → ⊥) → o ≡ outcome (refused n) s → Sound o s
+
+never : {A : Type 0} {o : Outcome A Tracker} {s : Tracker} → Sound o s → o .result ≡ refused 0 → ⊥
+never (accepts a e) r = not-both r e
+never (refuses n some e) r = some (ap numberOf (sym (ap (λ o. o .result) e) ∙ r))
+
+-- by its order of refusals
+some : {A : Type 0} (order : List Judged) (a : A) {n : ℕ} → says order a ≡ refused n → n ≡ 0 → ⊥
+some order a e z = says-some order a (e ∙ ap refused z)
+
+restart-some : (kept : Record) (t : Tables) {n : ℕ} → restartOf kept t .result ≡ refused n → n ≡ 0 → ⊥
+unfolding restartOf
+restart-some kept t e = some (restartOrder kept t) (freshRecord (kept .settings)) e
+
+refer-some : (x : ℕ) (s : Tracker) {n : ℕ} → referOf x s .result ≡ refused n → n ≡ 0 → ⊥
+unfolding referOf
+refer-some x s e = some (referOrder x s) (stepOf x s .reply) e
+
+read-some : (bytes : List ℕ) {n : ℕ} → readOf bytes ≡ refused n → n ≡ 0 → ⊥
+unfolding readOf
+read-some bytes e = some (readOrder bytes) _ e
+
+point-some : (kept : Record) (believed : Shape) (k : ℕ) (g : Histogram) → pointOf kept believed k g ≡ refused 0 → ⊥
+unfolding pointOf
+point-some kept believed k g e = says-some (pointOrder kept believed k g) _ e
+
+plot-some : (kept : Record) (believed : Shape) (k : ℕ) (g : Histogram) → plotOf kept believed k g ≡ refused 0 → ⊥
+unfolding plotOf
+plot-some kept believed k g e = says-some (pointOrder kept believed k g) _ e
+
+write-some : (e : Event) (buffer : List ℕ) → writeOf e buffer .result ≡ refused 0 → ⊥
+unfolding writeOf
+write-some e buffer r = says-some (writeOrder e buffer) _ r
+
+feed-some : (bytes : List ℕ) (s : Tracker) → feedOf bytes s .result ≡ refused 0 → ⊥
+feed-some = by-feeding (λ bytes s f. f .result ≡ refused 0 → ⊥)
+    (λ s r. not-both r refl)
+    (λ bytes s more e r. not-both r refl)
+    (λ bytes s n other more e r. read-some bytes e (ap numberOf r))
+    (λ bytes s g n e q r. apply-some (g .event) s (ap (λ o. o .result) q ∙ ap refused (ap numberOf r)))
+    (λ bytes s g left e t h. h)
+
+restart-sound : (s : Tracker) → Sound (restartOver s) s
+restart-sound s = restart-either (s .kept) (s .tables)
+    (λ b. accepts tt (ap (λ o. startedOver (s .kept) (o .result) (o .left) .result) (b .is)))
+    (λ n e. refuses n (restart-some (s .kept) (s .tables) (ap (λ o. o .result) e)) (ap (λ o. startedOver (s .kept) (o .result) (o .left)) e))
+
+refer-sound : (x : ℕ) (s : Tracker) → Sound (referOf x s) s
+refer-sound x s = refer-either x s
+    (λ a. accepts _ (ap (λ o. o .result) (refer-accept x s a)))
+    (λ n e. refuses n (refer-some x s (ap (λ o. o .result) e)) e)
+
+-- what an event that was read gives and leaves
+got-is : {g : Got} {o : Outcome (Unit {0}) Tracker} (bytes : List ℕ) (s : Tracker) → readOf bytes ≡ gives g → applyOf (g .event) s ≡ o
+    → applyGot (readOf bytes) s ≡ outcome (giving (g .taken) (o .result)) (o .left)
+got-is {g} bytes s e is = ap (λ z. applyGot z s) e ∙ ap (λ o. outcome (giving (g .taken) (o .result)) (o .left)) is
+
+apply-sound : (bytes : List ℕ) (s : Tracker) → Sound (applyGot (readOf bytes) s) s
+apply-sound bytes s = result-cases (readOf bytes)
+    (λ g e. apply-either s (g .event)
+    (λ left t. accepts (g .taken) (ap (λ o. o .result) (got-is bytes s e (t .is))))
+    (λ n q. refuses n (λ z. apply-some (g .event) s (ap (λ o. o .result) q ∙ ap refused z)) (got-is bytes s e q)))
+    (λ n e. refuses n (read-some bytes e) (ap (λ z. applyGot z s) e))
+
+-- ---- any call on the words
+
+-- what is put leaves as many words, and those past the record
+past-put : (kept : Record) (w : List ℕ) → (length (put kept w) ≡ length w) × (drop 9 (put kept w) ≡ drop 9 w)
+past-put kept w = (put-length kept w, cases (fewWords w) (λ e. rw e) (λ e. rw e))
+
+past-stored : (b : Bool) (kept : Record) (w : List ℕ) → (length (storedIf b kept w) ≡ length w) × (drop 9 (storedIf b kept w) ≡ drop 9 w)
+past-stored true kept w = past-put kept w
+past-stored false kept w = (refl, refl)
+
+enough-put : (kept : Record) (w : List ℕ) → fewWords w ≡ false → fewWords (put kept w) ≡ false
+enough-put kept w e = ap (λ n. ltb n 9) (put-length kept w) ∙ e
+
+-- the record that was put is the one held
+held-put : (h : Held) (s : Tracker) → fewWords (h .words) ≡ false → trackerIn (held (put (s .kept) (h .words)) (s .tables)) ≡ s
+held-put h s e = λ i. record { kept = record-of-put (s .kept) (h .words) e i; tables = s .tables }
+
+two-not-zero : _≡_ {A = ℕ} 2 0 → ⊥
+two-not-zero e = omega arith
+
+module _ {A : Type 0} (call : Tracker → Outcome A Tracker) (h : Held) where
+  by-words : (b : Bool) → fewWords (h .words) ≡ b → onHeld call h ≡ cond b (outcome (refused 2) h) (keeping h (call (trackerIn h)))
+  by-words b e = ap (λ z. cond z (outcome (refused 2) h) (keeping h (call (trackerIn h)))) e
+
+  held-past : SamePast h (onHeld call h .left)
+  held-past = cases (fewWords (h .words))
+      (λ e. subst (λ z. SamePast h (z .left)) (sym (by-words true e)) (refl, refl))
+      (λ e. subst (λ z. SamePast h (z .left)) (sym (by-words false e))
+      (past-stored (eqb (numberOf (call (trackerIn h) .result)) 0) (call (trackerIn h) .left .kept) (h .words)))
+
+  module _ (sound : Sound (call (trackerIn h)) (trackerIn h)) where
+    held-zero : ZeroWhen (numberOf (onHeld call h .result)) (Taken (h .words) (call (trackerIn h) .result))
+    held-zero = cases (fewWords (h .words))
+        (λ e. ((λ z. absurd (two-not-zero (sym (ap (λ o. numberOf (o .result)) (by-words true e)) ∙ z))), (λ p. clash e (p .0))))
+        (λ e.
+        let q = ap (λ o. numberOf (o .result)) (by-words false e) in
+        let w = zero-when (call (trackerIn h) .result) (never sound) in
+        ((λ z. (e, w .0 (sym q ∙ z))), (λ p. q ∙ w .1 (p .1))))
+
+    held-was : (numberOf (onHeld call h .result) ≡ 0 → ⊥) → onHeld call h .left ≡ h
+    held-was nonzero = cases (fewWords (h .words))
+        (λ e. ap (λ o. o .left) (by-words true e))
+        (λ e. ap (λ o. o .left) (by-words false e) ∙ by e sound)
+      where
+        by : fewWords (h .words) ≡ false → Sound (call (trackerIn h)) (trackerIn h) → keeping h (call (trackerIn h)) .left ≡ h
+        by e (accepts a r) = absurd (nonzero (ap (λ o. numberOf (o .result)) (by-words false e) ∙ ap numberOf r))
+        by e (refuses n k r) = ap (λ o. keeping h o .left) r ∙ ap (λ z. held z (h .tables)) (stored-same (eqb n 0) (h .words))
+
+    -- accepted: what is held is what the rules left
+    held-run : (past : List Reference) → numberOf (onHeld call h .result) ≡ 0 → Run past (call (trackerIn h) .left)
+        → HoldsRun past (onHeld call h .left)
+    held-run past z run =
+        let e = held-zero .0 z .0 in
+        let after = call (trackerIn h) .left in
+        let number = accepted-zero (call (trackerIn h) .result) (held-zero .0 z .1) in
+        let is : onHeld call h .left ≡ held (put (after .kept) (h .words)) (after .tables) =
+        ap (λ o. o .left) (by-words false e) ∙ ap (λ n. held (storedIf (eqb n 0) (after .kept) (h .words)) (after .tables)) number in
+        subst (HoldsRun past) (sym is)
+        (record { enough = enough-put (after .kept) (h .words) e; run = subst (Run past) (sym (held-put h after e)) run })
+
+-- ---- points, on the words
+
+words-zero : {A : Type 0} (w : List ℕ) (s : Result A) → (s ≡ refused 0 → ⊥) → ZeroWhen (numberOf (onWords w s)) (Taken w s)
+words-zero w s some-number = cases (fewWords w)
+    (λ e. ((λ z. absurd (two-not-zero (sym (ap (λ b. numberOf (cond b (refused 2) s)) e) ∙ z))), (λ p. clash e (p .0))))
+    (λ e.
+    let q = ap (λ b. numberOf (cond b (refused 2) s)) e in
+    let zero = zero-when s some-number in
+    ((λ z. (e, zero .0 (sym q ∙ z))), (λ p. q ∙ zero .1 (p .1))))
+
+enough-words : {A : Type 0} (w : List ℕ) (s : Result A) → fewWords w ≡ false → onWords w s ≡ s
+enough-words w s e = ap (λ b. cond b (refused 2) s) e
+
+few-words : {A : Type 0} (w : List ℕ) (s : Result A) → fewWords w ≡ true → onWords w s ≡ refused 2
+few-words w s e = ap (λ b. cond b (refused 2) s) e
+
+-- ---- setup
+
+module _ (given : Settings) (h : Held) where
+  abbrev order : List Judged
+  order = setupInOrder given h
+
+  abbrev said : Result (Unit {0})
+  said = says order tt
+
+  abbrev after : Held
+  after = held (put (freshRecord (withDefaults given)) (h .words)) (freshTables (withDefaults given) (h .tables))
+
+  -- accepted, by the conditions; and what the rules say then
+  passed : numberOf (setupHeld given h .result) ≡ 0 → NoneHolds order
+  passed z = says-accepted order tt (given-by said (zero-accepted said (says-some order tt) z))
+    where
+      given-by : (s : Result (Unit {0})) → Accepted s → s ≡ gives tt
+      given-by (gives a) t = refl
+      given-by (refused n) b = absurd b
+
+  setup-left : NoneHolds order → setupHeld given h .left ≡ after
+  setup-left p = rw (p .0, p .1 .0, p .1 .1 .0)
+
+  setup-given : NoneHolds order → setupOf given (h .tables) ≡ outcome (gives (freshRecord (withDefaults given))) (freshTables (withDefaults given) (h .tables))
+  setup-given p = setup-accept given (h .tables) (p .0) (p .1 .0)
+
+  -- the other way: what the rules accept, with enough words
+  passed-by : Taken (h .words) (setupOf given (h .tables) .result) → NoneHolds order
+  passed-by t = result-cases (setupOf given (h .tables) .result)
+      (λ kept e. let b = setup-begins given (h .tables) kept e in (b .range, (b .long, (t .0, tt))))
+      (λ n e. absurd (subst Accepted e (t .1)))
+
+  setup-zero : ZeroWhen (setupIn given h .value) (Taken (h .words) (setupOf given (h .tables) .result))
+  setup-zero = (
+    (λ z. let p = passed z in (p .1 .1 .0, subst Accepted (sym (ap (λ o. o .result) (setup-given p))) tt)),
+    (λ t. ap numberOf (says-given order tt (passed-by t))),
+  )
+
+  setup-was : (setupIn given h .value ≡ 0 → ⊥) → setupIn given h .left ≡ h
+  setup-was nonzero = result-cases said
+      (λ a e. absurd (nonzero (ap numberOf e)))
+      (λ n e. leaves-was order tt h after n e)
+
+  setup-past : SamePast h (setupIn given h .left)
+  setup-past = result-cases said
+      (λ a e. subst (SamePast h) (sym (setup-left (says-accepted {A = Unit {0}} order tt e))) (past-put (freshRecord (withDefaults given)) (h .words)))
+      (λ n e. subst (SamePast h) (sym (leaves-was {A = Unit {0}} order tt h after n e)) (refl, refl))
+
+  setup-run : setupIn given h .value ≡ 0 → HoldsRun [] (setupIn given h .left)
+  setup-run z =
+      let p = passed z in
+      let s = fresh (withDefaults given) (h .tables) in
+      subst (HoldsRun []) (sym (setup-left p)) (record {
+        enough = enough-put (s .kept) (h .words) (p .1 .1 .0);
+        run = subst (Run []) (sym (held-put h s (p .1 .1 .0))) (setup given (h .tables) {s = s} (setup-given p));
+      })
+
+-- ---- feeding
+
+module _ (bytes : List ℕ) (h : Held) where
+  abbrev fed : Feeding
+  fed = feedOf bytes (trackerIn h)
+
+  fed-by : (b : Bool) → fewWords (h .words) ≡ b → feedIn bytes h ≡ cond b (returned (fedWords 0 (refused 2)) h) (fedIn h (feedOf bytes (trackerIn h)))
+  fed-by b e = ap (λ z. cond z (returned (fedWords 0 (refused 2)) h) (fedIn h (feedOf bytes (trackerIn h)))) e
+
+  feed-zero : ZeroWhen (feedIn bytes h .value .refusal) (Taken (h .words) (feedOf bytes (trackerIn h) .result))
+  feed-zero = cases (fewWords (h .words))
+      (λ e. ((λ z. absurd (two-not-zero (sym (ap (λ o. o .value .refusal) (fed-by true e)) ∙ z))), (λ p. clash e (p .0))))
+      (λ e.
+      let q = ap (λ o. o .value .refusal) (fed-by false e) ∙ fed-number (fed .taken) (fed .result) in
+      let zero = zero-when (fed .result) (feed-some bytes (trackerIn h)) in
+      ((λ z. (e, zero .0 (sym q ∙ z))), (λ p. q ∙ zero .1 (p .1))))
+
+  feed-past : SamePast h (feedIn bytes h .left)
+  feed-past = cases (fewWords (h .words))
+      (λ e. subst (λ z. SamePast h (z .left)) (sym (fed-by true e)) (refl, refl))
+      (λ e. subst (λ z. SamePast h (z .left)) (sym (fed-by false e)) (past-put (fed .left .kept) (h .words)))
+
+  -- the bytes taken
+  taken-is : fewWords (h .words) ≡ false → feedIn bytes h .value .taken ≡ fed .taken
+  taken-is e = ap (λ o. o .value .taken) (fed-by false e) ∙ fed-taken (fed .taken) (fed .result)
+
+  -- what is held after feeding is what it left
+  fed-held : (past : List Reference) → fewWords (h .words) ≡ false → Run past (fed .left) → HoldsRun past (feedIn bytes h .left)
+  fed-held past e run = subst (λ z. HoldsRun past (z .left)) (sym (fed-by false e)) (record {
+    enough = enough-put (fed .left .kept) (h .words) e;
+    run = subst (Run past) (sym (held-put h (fed .left) e)) run;
+  })
+
+  feed-run : FedRun bytes h
+  feed-run = cases (fewWords (h .words))
+      (λ e.
+      let left = ap (λ o. o .left) (fed-by true e) in
+      record {
+        events = [];
+        are = subst (λ n. Events (take n bytes) []) (sym (ap (λ o. o .value .taken) (fed-by true e))) none;
+        continued = λ past holds. subst (HoldsRun past) (sym left) holds;
+        from-fresh-start = λ b. clash b refl;
+      })
+      (λ e.
+      let r = ran bytes (trackerIn h) in
+      record {
+        events = r .events;
+        are = subst (λ n. Events (take n bytes) (r .events)) (sym (taken-is e)) (r .are);
+        continued = λ past holds. fed-held (pastOf (r .events) past) e (r .continued past (holds .run));
+        from-fresh-start = λ b past. fed-held (pastOf (r .events) past) e (r .from-fresh-start b past);
+      })
+
+pub fed-alone : FedAlone
+fed-alone bytes h e =
+    let f = feedOf bytes (trackerIn h) in
+    ap (λ n. feedIn (take n bytes) h) (taken-is bytes h e) ∙ fed-by (take (f .taken) bytes) h false e ∙ ap (fedIn h) (taken-alone bytes (trackerIn h))
+    ∙ sym (λ i. returned (fedWords (taken-is bytes h e i) (gives whole)) (fed-by bytes h false e i .left))
+
+-- ---- demand 1
+
+-- a start over a record is accepted exactly when the start is
+over-accepted : (kept : Record) (r : Result Record) (t : Tables) → Accepted (startedOver kept r t .result) → Accepted r
+over-accepted kept (gives k) t a = tt
+over-accepted kept (refused n) t a = absurd a
+
+accepted-over : (kept : Record) (r : Result Record) (t : Tables) → Accepted r → Accepted (startedOver kept r t .result)
+accepted-over kept (gives k) t a = tt
+accepted-over kept (refused n) t a = absurd a
+
+restart-zero : (h : Held) → ZeroWhen (restartIn h .value) (Taken (h .words) (restartOf (recordOf (h .words)) (h .tables) .result))
+restart-zero h =
+    let kept = recordOf (h .words) in
+    let o = restartOf kept (h .tables) in
+    let zero = held-zero restartOver h (restart-sound (trackerIn h)) in
+    ((λ z. (zero .0 z .0, over-accepted kept (o .result) (o .left) (zero .0 z .1))), (λ p. zero .1 (p .0, accepted-over kept (o .result) (o .left) (p .1))))
+
+pub zero-is-accepted : ZeroIsAccepted
+zero-is-accepted = record {
+  of-setup = setup-zero;
+  of-restart = λ h. restart-zero h;
+  of-refer = λ x h. zero-by (answer-number (onHeld (referOf x) h .result)) (held-zero (referOf x) h (refer-sound x (trackerIn h)));
+  of-point = λ w b k g. zero-by (point-number (onWords w (pointOf (recordOf w) b k g))) (words-zero w (pointOf (recordOf w) b k g) (point-some (recordOf w) b k g));
+  of-plot = λ w b k g. zero-by (plot-number (onWords w (plotOf (recordOf w) b k g))) (words-zero w (plotOf (recordOf w) b k g) (plot-some (recordOf w) b k g));
+  of-apply = λ bytes h. zero-by (applied-number (onHeld (applyGot (readOf bytes)) h .result)) (held-zero (applyGot (readOf bytes)) h (apply-sound bytes (trackerIn h)));
+  of-feed = feed-zero;
+  of-read = λ bytes. zero-by (event-number (readOf bytes)) (zero-when (readOf bytes) (λ e. read-some bytes e refl));
+  of-write = λ e buffer. zero-by (written-number (writeOf e buffer .result)) (zero-when (writeOf e buffer .result) (write-some e buffer));
+}
+
+write-left : (e : Event) (buffer : List ℕ) (n : ℕ) → writeOf e buffer .result ≡ refused n → writeOf e buffer .left ≡ buffer
+unfolding writeOf
+write-left e buffer n r = leaves-was (writeOrder e buffer) (eventLength e) buffer (over (eventBytes e) buffer) n r
+
+write-was : (e : Event) (buffer : List ℕ) → (writeIn e buffer .value .refusal ≡ 0 → ⊥) → writeIn e buffer .left ≡ buffer
+write-was e buffer nonzero = result-cases (writeOf e buffer .result)
+    (λ n r. absurd (nonzero (written-number (writeOf e buffer .result) ∙ ap numberOf r)))
+    (write-left e buffer)
+
+pub left-as-it-was : LeftAsItWas
+left-as-it-was = record {
+  by-setup = setup-was;
+  by-restart = λ h. held-was restartOver h (restart-sound (trackerIn h));
+  by-refer = λ x h nonzero. held-was (referOf x) h (refer-sound x (trackerIn h)) (λ z. nonzero (answer-number (onHeld (referOf x) h .result) ∙ z));
+  by-apply = λ bytes h nonzero. held-was (applyGot (readOf bytes)) h (apply-sound bytes (trackerIn h)) (λ z. nonzero (applied-number (onHeld (applyGot (readOf bytes)) h .result) ∙ z));
+  by-write = write-was;
+}
+
+pub too-few-words : TooFew
+too-few-words = record {
+  for-setup = λ given h e. sym (setup-few h given e refl);
+  for-restart = λ h e. ap (returning numberOf) (by-words restartOver h true e);
+  for-refer = λ x h e. ap (returning answerWords) (by-words (referOf x) h true e);
+  for-point = λ w b k g e. ap pointWords (few-words w (pointOf (recordOf w) b k g) e);
+  for-plot = λ w b k g e. ap plotWords (few-words w (plotOf (recordOf w) b k g) e);
+  for-apply = λ bytes h e. ap (returning appliedWords) (by-words (applyGot (readOf bytes)) h true e);
+  for-feed = λ bytes h e. fed-by bytes h true e;
+}
+
+pub past-the-record : PastTheRecord
+past-the-record = record {
+  by-setup = setup-past;
+  by-restart = λ h. held-past restartOver h;
+  by-refer = λ x h. held-past (referOf x) h;
+  by-apply = λ bytes h. held-past (applyGot (readOf bytes)) h;
+  by-feed = feed-past;
+}
+
+pub stale-by-number : StaleByNumber
+stale-by-number w believed k g enough untorn long differs =
+    let stale = stale-by-name (recordOf w) believed k g untorn long differs in (
+      ap pointWords (enough-words w (pointOf (recordOf w) believed k g) enough ∙ stale),
+      ap plotWords (enough-words w (plotOf (recordOf w) believed k g) enough ∙ sym (plot-is (recordOf w) believed k g) ∙ ap plotted stale),
+    )
+
+-- ---- calls are a run
+
+restart-run : (h : Held) → restartIn h .value ≡ 0 → HoldsRun [] (restartIn h .left)
+restart-run h z = held-run restartOver h (restart-sound (trackerIn h)) [] z
+    (restart-either (recordOf (h .words)) (h .tables)
+    (λ b. subst (Run []) (sym (ap (λ o. startedOver (recordOf (h .words)) (o .result) (o .left) .left) (b .is))) (restart (recordOf (h .words)) (h .tables) (b .is)))
+    (λ n e. absurd (subst Accepted (ap (λ o. o .result) e) (restart-zero h .0 z .1))))
+
+-- a reference: the run goes on, and the answer is the history's
+module _ (past : List Reference) (x : Reference) (h : Held) (holds : HoldsRun past h) (z : referIn x h .value .refusal ≡ 0) where
+  abbrev s : Tracker
+  s = trackerIn h
+
+  number : numberOf (onHeld (referOf x) h .result) ≡ 0
+  number = sym (answer-number (onHeld (referOf x) h .result)) ∙ z
+
+  answered : {C : Type 0} → ((r : Reply) → referOf x s ≡ outcome (gives r) (referOf x s .left) → C) → C
+  answered f = result-cases (referOf x s .result)
+      (λ r e. f r (λ i. outcome (e i) (referOf x s .left)))
+      (λ n e. absurd (subst Accepted e (held-zero (referOf x) h (refer-sound x s) .0 number .1)))
+
+  refer-run : HoldsRun (x ∷ past) (referIn x h .left)
+  refer-run = answered (λ r e. held-run (referOf x) h (refer-sound x s) (x ∷ past) number (refer (holds .run) e))
+
+  refer-answer : referIn x h .value ≡ answerWords (gives (historyReply s past x))
+  refer-answer = answered (λ r e.
+      ap (λ o. answerWords (o .result)) (by-words (referOf x) h false (holds .enough)) ∙ ap (λ o. answerWords (o .result)) e
+      ∙ ap (λ q. answerWords (gives q)) (whole-answers past s (referOf x s .left) x r (holds .run) e))
+
+-- an event
+module _ (bytes : List ℕ) (g : Got) (h : Held) (read : readOf bytes ≡ gives g) (z : applyIn bytes h .value .refusal ≡ 0) where
+  event-number-zero : numberOf (onHeld (applyGot (readOf bytes)) h .result) ≡ 0
+  event-number-zero = sym (applied-number (onHeld (applyGot (readOf bytes)) h .result)) ∙ z
+
+  -- it was taken, and left a run
+  took : {C : Type 0} → ((left : Tracker) → Took (g .event) (trackerIn h) left → applyGot (readOf bytes) (trackerIn h) .left ≡ left → C) → C
+  took f = apply-either (trackerIn h) (g .event)
+      (λ left t. f left t (ap (λ o. o .left) (got-is bytes (trackerIn h) read (t .is))))
+      (λ n q. absurd (subst Accepted (ap (λ o. o .result) (got-is bytes (trackerIn h) read q))
+      (held-zero (applyGot (readOf bytes)) h (apply-sound bytes (trackerIn h)) .0 event-number-zero .1)))
+
+  event-run : (past : List Reference) → ((left : Tracker) → Took (g .event) (trackerIn h) left → Run past left) → HoldsRun past (applyIn bytes h .left)
+  event-run past runs = took (λ left t e.
+      held-run (applyGot (readOf bytes)) h (apply-sound bytes (trackerIn h)) past event-number-zero (subst (Run past) (sym e) (runs left t)))
+
+-- the history after a fresh start is empty
+fresh-past : (e : Event) → freshStart e ≡ true → pastAfter e [] ≡ []
+fresh-past (event.Location x) b = clash b refl
+fresh-past (event.Span offset n) b = clash b refl
+fresh-past event.Restart b = refl
+fresh-past (event.Setup body) b = refl
+
+pub calls-are-a-run : CallsAreARun
+calls-are-a-run = record {
+  by-setup = setup-run;
+  by-restart = restart-run;
+  by-refer = λ past x h holds z. (refer-run past x h holds z, refer-answer past x h holds z);
+  by-apply = λ bytes g h read z past holds. event-run bytes g h read z (pastAfter (g .event) past) (λ left t. t .runs past (holds .run));
+  by-fresh-start = λ bytes g h read b z.
+      event-run bytes g h read z [] (λ left t. subst (λ p. Run p left) (fresh-past (g .event) b) (t .begins b []));
+  by-feed = feed-run;
+}
+
+-- ---- demands 2 and 3
+
+pub threshold-in : ThresholdIn
+threshold-in past h holds = threshold past (trackerIn h) (holds .run)
+
+pub live-list-in : LiveListIn
+live-list-in past h holds = live-list past (trackerIn h) (holds .run)
+
+pub references-in : ReferencesIn
+references-in past h holds = numbers past (trackerIn h) (holds .run) .references-is
+
+pub full-rate-in : FullRateIn
+full-rate-in past h holds start limit k within =
+    let lru = full-rate past (trackerIn h) (holds .run) start limit k within in
+    let is = ap pointWords (enough-words (h .words) (pointOf (recordOf (h .words)) _ k (h .tables .histogram)) (holds .enough)) in
+    record { some-made = λ made. is ∙ ap pointWords (lru .some-made made); none-made = λ e. is ∙ ap pointWords (lru .none-made e) }
