@@ -15,36 +15,37 @@ use Rattle.rules.specs.declared.PlotPoint.{PlotPoint}
 use Rattle.rules.specs.declared.Event.{Event}
 use Rattle.rules.specs.declared.Event.the-variants as event
 use Rattle.rules.specs.Lists.{over}
-use Rattle.rules.specs.Settings.{Histogram, Tables, withDefaults, outOfRange}
-use Rattle.rules.specs.Reference.{Reply, skipped, first, again}
+use Rattle.rules.specs.Settings.{Histogram, Tables, withDefaults}
+use Rattle.rules.specs.Reference.{Reply}
 use Rattle.rules.specs.Answers.{Result, refused, gives, numberOf, Got}
-use Rattle.rules.specs.Order.{Outcome, outcome, Judged, says, leaves, NoneHolds}
+use Rattle.rules.specs.Order.{Outcome, outcome, Judged, says, NoneHolds}
 use Rattle.rules.specs.Events.{eventBytes, eventLength, readOf, readOrder, writeOf, writeOrder}
 use Rattle.rules.specs.Layout.{Tracker, freshRecord, freshTables, fresh}
-use Rattle.rules.specs.Conditions.{tooShort}
-use Rattle.rules.specs.Calls.{setupOf, setupOrder, restartOf, restartOrder, startedOver, restartOver, stepOf, referOf, referOrder, pointOf, pointOrder}
+use Rattle.rules.specs.Calls.{setupOf, restartOf, restartOrder, startedOver, restartOver, stepOf, referOf, referOrder, pointOf, pointOrder}
 use Rattle.rules.specs.Calls.{plotOf, applyOf}
 use Rattle.rules.specs.History.{Reference}
 use Rattle.rules.proofs.Tests.{cases, clash}
 use Rattle.rules.proofs.Order.{not-both, says-given, says-accepted, says-some, leaves-was}
-use Rattle.rules.proofs.Calls.{Begins, setup-accept, setup-begins, restart-either, refer-either, refer-accept, plotted, plot-is}
+use Rattle.rules.proofs.Calls.{setup-accept, setup-begins, restart-either, refer-either, refer-accept, plotted, plot-is}
 use Rattle.demands.specs.Runs.{Run, setup, restart, refer}
 use Rattle.demands.specs.Statements.{historyReply}
 use Rattle.demands.proofs.Refusing.{apply-some, stale-by-name}
 use Rattle.demands.proofs.Tracking.{threshold, live-list, numbers, whole-answers}
+use Rattle.demands.proofs.Alone.{nothing-else}
 use Rattle.demands.proofs.Points.{full-rate}
-use Rattle.feed.specs.Feed.{End, whole, inside, Feeding, feedOf, justTaken}
-use Rattle.feed.specs.Past.{pastAfter, pastOf, freshStart, Events, none, Ran}
-use Rattle.feed.proofs.Laws.{taking, Took, apply-either, by-feeding}
+use Rattle.feed.specs.Feed.{End, whole, inside, Feeding, feedOf}
+use Rattle.feed.specs.Past.{pastAfter, pastOf, freshStart, Events, none}
+use Rattle.feed.proofs.Laws.{Took, apply-either, by-feeding}
 use Rattle.feed.proofs.Pieces.{taken-alone}
 use Rattle.feed.proofs.Runs.{ran}
-use Rattle.words.specs.Words.{fewWords, recordOf, wordsOf, put, storedIf, Returned, returned, answerWords, pointWords, plotWords, eventWords}
+use Rattle.words.specs.Words.{fewWords, recordOf, put, storedIf, returned, answerWords, pointWords, plotWords, eventWords}
 use Rattle.words.specs.Words.{gotWords, appliedWords, writtenWords, fedWords, giving}
-use Rattle.words.proofs.Laws.{put-same, put-length, record-of-put}
-use Rattle.driver.specs.Calls.{Held, held, trackerIn, returning, keeping, onHeld, onWords, setupInOrder, setupHeld, setupIn, fewForSetup}
-use Rattle.driver.specs.Calls.{restartIn, referIn, pointIn, plotIn, applyGot, applyIn, fedIn, feedIn, readIn, writeIn}
-use Rattle.driver.specs.Driven.{Accepted, Taken, ZeroWhen, ZeroIsAccepted, LeftAsItWas, FedAlone, TooFew, SamePast, PastTheRecord, StaleByNumber}
-use Rattle.driver.specs.Driven.{HoldsRun, FedRun, CallsAreARun, ThresholdIn, LiveListIn, ReferencesIn, LikeLruIn, FullRateIn}
+use Rattle.words.proofs.Laws.{put-length, record-of-put}
+use Rattle.driver.specs.Calls.{Held, held, trackerIn, returning, keeping, onHeld, onWords, setupInOrder, setupHeld, setupIn}
+use Rattle.driver.specs.Calls.{restartIn, referIn, applyGot, applyIn, fedIn, feedIn, writeIn}
+use Rattle.driver.specs.Driven.{Accepted, Taken, ZeroWhen, ZeroIsAccepted, LeftAsItWas, FedAlone, TooFew, SamePast}
+use Rattle.driver.specs.Driven.{PastTheRecord, StaleByNumber}
+use Rattle.driver.specs.Driven.{HoldsRun, FedRun, CallsAreARun, ThresholdIn, LiveListIn, NothingElseIn, ReferencesIn, FullRateIn}
 use Rattle.driver.proofs.Laws.{answer-number, stored-same, setup-few}
 
 -- ---- a result, by its number
@@ -271,7 +272,8 @@ module _ (given : Settings) (h : Held) where
   setup-left : NoneHolds order → setupHeld given h .left ≡ after
   setup-left p = rw (p .0, p .1 .0, p .1 .1 .0)
 
-  setup-given : NoneHolds order → setupOf given (h .tables) ≡ outcome (gives (freshRecord (withDefaults given))) (freshTables (withDefaults given) (h .tables))
+  setup-given : NoneHolds order
+      → setupOf given (h .tables) ≡ outcome (gives (freshRecord (withDefaults given))) (freshTables (withDefaults given) (h .tables))
   setup-given p = setup-accept given (h .tables) (p .0) (p .1 .0)
 
   -- the other way: what the rules accept, with enough words
@@ -293,7 +295,8 @@ module _ (given : Settings) (h : Held) where
 
   setup-past : SamePast h (setupIn given h .left)
   setup-past = result-cases said
-      (λ a e. subst (SamePast h) (sym (setup-left (says-accepted {A = Unit {0}} order tt e))) (past-put (freshRecord (withDefaults given)) (h .words)))
+      (λ a e. subst (SamePast h) (sym (setup-left (says-accepted {A = Unit {0}} order tt e)))
+      (past-put (freshRecord (withDefaults given)) (h .words)))
       (λ n e. subst (SamePast h) (sym (leaves-was {A = Unit {0}} order tt h after n e)) (refl, refl))
 
   setup-run : setupIn given h .value ≡ 0 → HoldsRun [] (setupIn given h .left)
@@ -378,17 +381,22 @@ restart-zero : (h : Held) → ZeroWhen (restartIn h .value) (Taken (h .words) (r
 restart-zero h =
     let kept = recordOf (h .words) in
     let o = restartOf kept (h .tables) in
-    let zero = held-zero restartOver h (restart-sound (trackerIn h)) in
-    ((λ z. (zero .0 z .0, over-accepted kept (o .result) (o .left) (zero .0 z .1))), (λ p. zero .1 (p .0, accepted-over kept (o .result) (o .left) (p .1))))
+    let zero = held-zero restartOver h (restart-sound (trackerIn h)) in (
+      (λ z. (zero .0 z .0, over-accepted kept (o .result) (o .left) (zero .0 z .1))),
+      (λ p. zero .1 (p .0, accepted-over kept (o .result) (o .left) (p .1))),
+    )
 
 pub zero-is-accepted : ZeroIsAccepted
 zero-is-accepted = record {
   of-setup = setup-zero;
   of-restart = λ h. restart-zero h;
   of-refer = λ x h. zero-by (answer-number (onHeld (referOf x) h .result)) (held-zero (referOf x) h (refer-sound x (trackerIn h)));
-  of-point = λ w b k g. zero-by (point-number (onWords w (pointOf (recordOf w) b k g))) (words-zero w (pointOf (recordOf w) b k g) (point-some (recordOf w) b k g));
-  of-plot = λ w b k g. zero-by (plot-number (onWords w (plotOf (recordOf w) b k g))) (words-zero w (plotOf (recordOf w) b k g) (plot-some (recordOf w) b k g));
-  of-apply = λ bytes h. zero-by (applied-number (onHeld (applyGot (readOf bytes)) h .result)) (held-zero (applyGot (readOf bytes)) h (apply-sound bytes (trackerIn h)));
+  of-point = λ w b k g. zero-by (point-number (onWords w (pointOf (recordOf w) b k g)))
+      (words-zero w (pointOf (recordOf w) b k g) (point-some (recordOf w) b k g));
+  of-plot = λ w b k g. zero-by (plot-number (onWords w (plotOf (recordOf w) b k g)))
+      (words-zero w (plotOf (recordOf w) b k g) (plot-some (recordOf w) b k g));
+  of-apply = λ bytes h. zero-by (applied-number (onHeld (applyGot (readOf bytes)) h .result))
+      (held-zero (applyGot (readOf bytes)) h (apply-sound bytes (trackerIn h)));
   of-feed = feed-zero;
   of-read = λ bytes. zero-by (event-number (readOf bytes)) (zero-when (readOf bytes) (λ e. read-some bytes e refl));
   of-write = λ e buffer. zero-by (written-number (writeOf e buffer .result)) (zero-when (writeOf e buffer .result) (write-some e buffer));
@@ -408,7 +416,8 @@ left-as-it-was = record {
   by-setup = setup-was;
   by-restart = λ h. held-was restartOver h (restart-sound (trackerIn h));
   by-refer = λ x h nonzero. held-was (referOf x) h (refer-sound x (trackerIn h)) (λ z. nonzero (answer-number (onHeld (referOf x) h .result) ∙ z));
-  by-apply = λ bytes h nonzero. held-was (applyGot (readOf bytes)) h (apply-sound bytes (trackerIn h)) (λ z. nonzero (applied-number (onHeld (applyGot (readOf bytes)) h .result) ∙ z));
+  by-apply = λ bytes h nonzero. held-was (applyGot (readOf bytes)) h (apply-sound bytes (trackerIn h))
+      (λ z. nonzero (applied-number (onHeld (applyGot (readOf bytes)) h .result) ∙ z));
   by-write = write-was;
 }
 
@@ -444,7 +453,8 @@ stale-by-number w believed k g enough untorn long differs =
 restart-run : (h : Held) → restartIn h .value ≡ 0 → HoldsRun [] (restartIn h .left)
 restart-run h z = held-run restartOver h (restart-sound (trackerIn h)) [] z
     (restart-either (recordOf (h .words)) (h .tables)
-    (λ b. subst (Run []) (sym (ap (λ o. startedOver (recordOf (h .words)) (o .result) (o .left) .left) (b .is))) (restart (recordOf (h .words)) (h .tables) (b .is)))
+    (λ b. subst (Run []) (sym (ap (λ o. startedOver (recordOf (h .words)) (o .result) (o .left) .left) (b .is)))
+    (restart (recordOf (h .words)) (h .tables) (b .is)))
     (λ n e. absurd (subst Accepted (ap (λ o. o .result) e) (restart-zero h .0 z .1))))
 
 -- a reference: the run goes on, and the answer is the history's
@@ -480,7 +490,8 @@ module _ (bytes : List ℕ) (g : Got) (h : Held) (read : readOf bytes ≡ gives 
       (λ n q. absurd (subst Accepted (ap (λ o. o .result) (got-is bytes (trackerIn h) read q))
       (held-zero (applyGot (readOf bytes)) h (apply-sound bytes (trackerIn h)) .0 event-number-zero .1)))
 
-  event-run : (past : List Reference) → ((left : Tracker) → Took (g .event) (trackerIn h) left → Run past left) → HoldsRun past (applyIn bytes h .left)
+  event-run : (past : List Reference)
+      → ((left : Tracker) → Took (g .event) (trackerIn h) left → Run past left) → HoldsRun past (applyIn bytes h .left)
   event-run past runs = took (λ left t e.
       held-run (applyGot (readOf bytes)) h (apply-sound bytes (trackerIn h)) past event-number-zero (subst (Run past) (sym e) (runs left t)))
 
@@ -509,6 +520,9 @@ threshold-in past h holds = threshold past (trackerIn h) (holds .run)
 
 pub live-list-in : LiveListIn
 live-list-in past h holds = live-list past (trackerIn h) (holds .run)
+
+pub nothing-else-in : NothingElseIn
+nothing-else-in past h holds = nothing-else past (trackerIn h) (holds .run)
 
 pub references-in : ReferencesIn
 references-in past h holds = numbers past (trackerIn h) (holds .run) .references-is

@@ -20,15 +20,16 @@ use Rattle.rules.specs.Conditions.{tooShort}
 use Rattle.rules.specs.Calls.{setupOf, restartOf, startedOver, restartOver, referOf, applyOf}
 use Rattle.rules.proofs.Tests.{cases}
 use Rattle.rules.proofs.Events.{taken}
-use Rattle.feed.specs.Feed.{Feeding, End, feedOf}
+use Rattle.feed.specs.Feed.{Feeding, feedOf}
 use Rattle.feed.proofs.Pieces.{none-taken, one-event}
 use Rattle.words.specs.declared.AnswerWords.{AnswerWords}
 use Rattle.words.specs.declared.AppliedWords.{AppliedWords}
 use Rattle.words.specs.declared.WrittenWords.{WrittenWords}
 use Rattle.words.specs.declared.FedWords.{FedWords}
-use Rattle.words.specs.Words.{fewWords, recordOf, put, storedIf, storedStart, Returned, returned, giving, answerWords, appliedWords, writtenWords, fedWords}
+use Rattle.words.specs.Words.{fewWords, recordOf, put, storedIf, storedStart, Returned, returned, giving, answerWords, appliedWords}
+use Rattle.words.specs.Words.{writtenWords, fedWords}
 use Rattle.words.proofs.Laws.{put-same}
-use Rattle.driver.specs.Calls.{Held, held, trackerIn, returning, keeping, onHeld, setupHeld, setupIn, fewForSetup, restartIn, referIn, applyGot, applyIn}
+use Rattle.driver.specs.Calls.{Held, held, trackerIn, returning, keeping, onHeld, setupIn, fewForSetup, restartIn, referIn, applyGot, applyIn}
 use Rattle.driver.specs.Calls.{fedIn, feedIn}
 
 -- the refusal stands first
@@ -169,13 +170,17 @@ module _ (bytes : List ℕ) (h : Held) where
 
   -- feeding
   pub feed-few : {r : FedWords} → fewWords (h .words) ≡ true → r ≡ fedWords 0 (refused 2) → returned r h ≡ feedIn bytes h
-  feed-few few is = ap (λ z. returned z h) is ∙ sym (ap (λ b. cond b (returned (fedWords 0 (refused 2)) h) (fedIn h (feedOf bytes (trackerIn h)))) few)
+  feed-few few is =
+      ap (λ z. returned z h) is
+      ∙ sym (ap (λ b. cond b (returned (fedWords 0 (refused 2)) h) (fedIn h (feedOf bytes (trackerIn h)))) few)
 
   -- if nothing was taken, the record is the words' own
   stored-fed : (f : Feeding) → f ≡ feedOf bytes (trackerIn h)
       → storedIf (not (eqb (f .taken) 0)) (f .left .kept) (h .words) ≡ put (f .left .kept) (h .words)
   stored-fed f e = cases (eqb (f .taken) 0)
-      (λ z. let none : f .left ≡ trackerIn h = ap (λ q. q .left) e ∙ none-taken bytes (trackerIn h) (sym (ap (λ q. q .taken) e) ∙ eqb-true (f .taken) 0 z) in
+      (λ z.
+      let none : f .left ≡ trackerIn h =
+      ap (λ q. q .left) e ∙ none-taken bytes (trackerIn h) (sym (ap (λ q. q .taken) e) ∙ eqb-true (f .taken) 0 z) in
       ap (λ b. storedIf (not b) (f .left .kept) (h .words)) z ∙ sym (ap (λ q. put (q .kept) (h .words)) none ∙ put-same (h .words)))
       (λ z. ap (λ b. storedIf (not b) (f .left .kept) (h .words)) z)
 

@@ -1,7 +1,7 @@
 -- The demands, of what a C caller holds and of what its calls return. Assumes nothing.
 use Prim.Native.Nat.{ℕ, _-_, _*_, _≤_, _<_}
 use mathlib.Core.Path.{_≡_}
-use mathlib.Core.Bool.{Bool, true, false}
+use mathlib.Core.Bool.{true, false}
 use mathlib.Core.List.{List, [], _∷_}
 use lib.ListN.{length, getD, take, drop}
 use Rattle.rules.specs.declared.Settings.{Settings}
@@ -11,13 +11,13 @@ use Rattle.rules.specs.Lists.{keep}
 use Rattle.rules.specs.Settings.{Histogram, fullRate, oneReference}
 use Rattle.rules.specs.Answers.{Result, refused, gives, Got}
 use Rattle.rules.specs.Events.{readOf, writeOf}
-use Rattle.rules.specs.Layout.{Tracker, hashFor}
+use Rattle.rules.specs.Layout.{hashFor}
 use Rattle.rules.specs.Conditions.{bucketsTooShort, tornRecord}
 use Rattle.rules.specs.Calls.{setupOf, restartOf, referOf, pointOf, plotOf}
 use Rattle.rules.specs.History.{recency, Largest, Reference, locations}
 use Rattle.rules.specs.Cache.{hits}
 use Rattle.demands.specs.Runs.{Run}
-use Rattle.demands.specs.Statements.{historyReply, inForce, sizeAt}
+use Rattle.demands.specs.Statements.{historyReply, inForce, sizeAt, Alone}
 use Rattle.feed.specs.Feed.{whole, feedOf}
 use Rattle.feed.specs.Past.{pastAfter, pastOf, freshStart, anyFreshStart, Events}
 use Rattle.words.specs.declared.PointWords.{PointWords}
@@ -46,7 +46,8 @@ pub record ZeroIsAccepted : Type 0 where
       → ZeroWhen (pointIn w believed k g .refusal) (Taken w (pointOf (recordOf w) believed k g))
   pub of-plot : (w : List ℕ) (believed : Shape) (k : ℕ) (g : Histogram)
       → ZeroWhen (plotIn w believed k g .refusal) (Taken w (plotOf (recordOf w) believed k g))
-  pub of-apply : (bytes : List ℕ) (h : Held) → ZeroWhen (applyIn bytes h .value .refusal) (Taken (h .words) (applyGot (readOf bytes) (trackerIn h) .result))
+  pub of-apply : (bytes : List ℕ) (h : Held)
+      → ZeroWhen (applyIn bytes h .value .refusal) (Taken (h .words) (applyGot (readOf bytes) (trackerIn h) .result))
   pub of-feed : (bytes : List ℕ) (h : Held) → ZeroWhen (feedIn bytes h .value .refusal) (Taken (h .words) (feedOf bytes (trackerIn h) .result))
   pub of-read : (bytes : List ℕ) → ZeroWhen (readIn bytes .refusal) (Accepted (readOf bytes))
   pub of-write : (e : Event) (buffer : List ℕ) → ZeroWhen (writeIn e buffer .value .refusal) (Accepted (writeOf e buffer .result))
@@ -155,6 +156,9 @@ ThresholdIn = (past : List Reference) (h : Held) → HoldsRun past h
 abbrev pub LiveListIn : Type 0
 LiveListIn = (past : List Reference) (h : Held) → HoldsRun past h
     → take (liveWord h) (h .tables .locations) ≡ keep (inForce (trackerIn h)) (recency (locations past))
+
+abbrev pub NothingElseIn : Type 0
+NothingElseIn = (past : List Reference) (h : Held) → HoldsRun past h → Alone past (trackerIn h)
 
 abbrev pub ReferencesIn : Type 0
 ReferencesIn = (past : List Reference) (h : Held) → HoldsRun past h → referencesWord h ≡ length past

@@ -1,5 +1,6 @@
--- Feeding in pieces, cut anywhere, is feeding the whole; and feeding just the bytes that were taken leaves the same. By `by-feeding`: an event that was read reads the same with more bytes behind it, and
--- one that was cut is not taken, so that it is read again with them. Assumes nothing.
+-- Feeding in pieces, cut anywhere, is feeding the whole; and feeding just the bytes that were taken leaves the same. By `by-feeding`: an event
+-- that was read reads the same with more bytes behind it, and one that was cut is not taken, so that it is read again with them. Assumes
+-- nothing.
 use Prim.Native.Nat.{ℕ, _+_, _-_, _≤_, _<_}
 use mathlib.Core.Path.{_≡_, refl, sym, ap, _∙_}
 use mathlib.Core.List.{List, [], _++_}
@@ -114,7 +115,8 @@ module _ (bytes : List ℕ) (s : Tracker) (g : Got) (e : readOf bytes ≡ gives 
   abbrev event : List ℕ
   event = take (g .taken) bytes
 
-  reads : (said : Outcome (Unit {0}) Tracker) → applyOf (g .event) s ≡ said → feedOf event s ≡ afterEvent feedOf (g .taken) event (said .result) (said .left)
+  reads : (said : Outcome (Unit {0}) Tracker) → applyOf (g .event) s ≡ said
+      → feedOf event s ≡ afterEvent feedOf (g .taken) event (said .result) (said .left)
   reads said is =
       let e' = read-front (g .taken) bytes e (omega arith) in
       feed-reads event s (omega (arith, taken event e')) (gives g) e'
@@ -128,5 +130,6 @@ module _ (bytes : List ℕ) (s : Tracker) (g : Got) (e : readOf bytes ≡ gives 
       → ((n : ℕ) → applyOf (g .event) s ≡ outcome (refused n) s → feedOf event s ≡ stopped (refused n) s → C) → C
   one-event took refuses = apply-either s (g .event)
       (λ left t. took left (t .is)
-      (reads (taking left) (t .is) ∙ ap (further (g .taken)) (no-more left) ∙ (λ i. record { taken = add-zero (g .taken) i; result = gives whole; left = left })))
+      (reads (taking left) (t .is) ∙ ap (further (g .taken)) (no-more left)
+      ∙ (λ i. record { taken = add-zero (g .taken) i; result = gives whole; left = left })))
       (λ n q. refuses n q (reads (outcome (refused n) s) q))

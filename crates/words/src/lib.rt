@@ -26,6 +26,9 @@ ghost use Rattle.words.specs.Words.{appliedWords, writtenWords, fedWords
 // How many words a record has.
 pub const RECORD_WORDS: usize = 9;
 
+// What stands in a refusal's place if a call was accepted.
+const ACCEPTED: u64 = 0;
+
 // ---- what C passes
 
 // The settings asked for. A zero stands for the default, except for the hash kind.
@@ -155,7 +158,7 @@ pub fn store_started(words: &mut [u64], answer: Started) -> u64
     match answer {
         Started::Ready(kept) => {
             put(words, kept);
-            0
+            ACCEPTED
         }
         Started::Refused(why) => judge::number_of(why),
     }
@@ -228,17 +231,17 @@ pub fn answer_words(answer: Answer) -> AnswerWords
 {
     match answer {
         Answer::Skipped => AnswerWords {
-            refusal: 0,
+            refusal: ACCEPTED,
             reply: 0,
             distance: 0,
         },
         Answer::Again(place) => AnswerWords {
-            refusal: 0,
+            refusal: ACCEPTED,
             reply: 1,
             distance: place,
         },
         Answer::First => AnswerWords {
-            refusal: 0,
+            refusal: ACCEPTED,
             reply: 2,
             distance: 0,
         },
@@ -255,7 +258,7 @@ pub fn point_words(answer: Pointed) -> PointWords
 {
     match answer {
         Pointed::At(p) => PointWords {
-            refusal: 0,
+            refusal: ACCEPTED,
             size: p.size,
             hits: p.hits,
             misses: p.misses,
@@ -276,7 +279,7 @@ pub fn plot_words(answer: Plotted) -> PlotWords
 {
     match answer {
         Plotted::At(p) => PlotWords {
-            refusal: 0,
+            refusal: ACCEPTED,
             size: p.size,
             ratio: p.ratio,
         },
@@ -321,7 +324,7 @@ fn got_words(event: Event, taken: usize) -> EventWords
     let n = taken as u64;
     match event {
         Event::Location(location) => EventWords {
-            refusal: 0,
+            refusal: ACCEPTED,
             kind: 1,
             taken: n,
             location,
@@ -330,7 +333,7 @@ fn got_words(event: Event, taken: usize) -> EventWords
             settings: no_settings(),
         },
         Event::Span { offset, length } => EventWords {
-            refusal: 0,
+            refusal: ACCEPTED,
             kind: 2,
             taken: n,
             location: 0,
@@ -339,7 +342,7 @@ fn got_words(event: Event, taken: usize) -> EventWords
             settings: no_settings(),
         },
         Event::Restart => EventWords {
-            refusal: 0,
+            refusal: ACCEPTED,
             kind: 3,
             taken: n,
             location: 0,
@@ -348,7 +351,7 @@ fn got_words(event: Event, taken: usize) -> EventWords
             settings: no_settings(),
         },
         Event::Setup(body) => EventWords {
-            refusal: 0,
+            refusal: ACCEPTED,
             kind: 4,
             taken: n,
             location: 0,
@@ -381,7 +384,7 @@ pub fn applied_words(answer: Taken, taken: usize) -> AppliedWords
 {
     match answer {
         Taken::Whole => AppliedWords {
-            refusal: 0,
+            refusal: ACCEPTED,
             taken: taken as u64,
         },
         Taken::Refused(why) => AppliedWords {
@@ -396,7 +399,7 @@ pub fn written_words(answer: Written) -> WrittenWords
 {
     match answer {
         Written::Filled(n) => WrittenWords {
-            refusal: 0,
+            refusal: ACCEPTED,
             length: n as u64,
         },
         Written::Refused(why) => WrittenWords {
@@ -412,12 +415,12 @@ pub fn fed_words(taken: usize, ending: Ending) -> FedWords
     let n = taken as u64;
     match ending {
         Ending::Whole => FedWords {
-            refusal: 0,
+            refusal: ACCEPTED,
             taken: n,
             incomplete: 0,
         },
         Ending::Inside => FedWords {
-            refusal: 0,
+            refusal: ACCEPTED,
             taken: n,
             incomplete: 1,
         },

@@ -24,7 +24,9 @@ same-length : tie.Need-same-length
 same-length c = search needs
 
 returns : tie.Need-returns
-returns c = too-few appliedWords (applyGot (readOf (now (c .before .before .before .before .before .before .before .before .before .args .bytes)))) _ (sym (c .before .before .too-few .ensures) ∙ c .before .if1 .taken)
+returns c =
+    too-few appliedWords (applyGot (readOf (now (c .before .before .before .before .before .before .before .before .before .args .bytes)))) _
+    (sym (c .before .before .too-few .ensures) ∙ c .before .if1 .taken)
     (c .applied-words .ensures)
 
 read-requires : tie.Need-read-requires

@@ -50,7 +50,8 @@ returns-2 c =
     let judged = called .before .before .before .before .before .before in
     let a = judged .before .before .before .before .before .before .before .before .args in
     feed-stored _ (held (now (a .words)) (tablesOf (now (a .locations)) (now (a .counts)) (now (a .thresholds))))
-    (sym (judged .before .too-few .ensures) ∙ judged .if1 .left) (rw (called .before .before .before .before .record-of .ensures) at (called .feed .ensures))
+    (sym (judged .before .too-few .ensures) ∙ judged .if1 .left)
+    (rw (called .before .before .before .before .record-of .ensures) at (called .feed .ensures))
     (c .fed-words2 .ensures) (c .before .before .before .store-if .ensures)
 
 pub rockgingham-feed-v1-spec : {M : Type 1} → statement M

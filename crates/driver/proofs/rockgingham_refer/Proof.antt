@@ -59,7 +59,9 @@ returns-2 c =
     let a = judged .before .before .before .before .before .before .before .args in
     refer-skipped _ (held (now (a .words)) (tablesOf (now (a .locations)) (now (a .counts)) (now (a .thresholds))))
     (sym (judged .before .too-few .ensures) ∙ judged .if1 .left)
-    (skip-is _ _ _ _ _ (sym (ap skipResult (c .before .before .before .before .before .before .after .given .1)) ∙ rw (asked .before .before .before .before .record-of .ensures) at (asked .skip .ensures)))
+    (skip-is _ _ _ _ _
+    (sym (ap skipResult (c .before .before .before .before .before .before .after .given .1))
+    ∙ rw (asked .before .before .before .before .record-of .ensures) at (asked .skip .ensures)))
     (c .answer-words2 .ensures) (c .before .before .before .store-if .ensures)
 
 enum-told : tie.Need-enum-told
@@ -95,7 +97,8 @@ returns-3 c =
     let judged = called .before .before .before .before .before .before .before .before .before .before .before .before .before .before in
     let a = judged .before .before .before .before .before .before .before .args in
     refer-stored _ (held (now (a .words)) (tablesOf (now (a .locations)) (now (a .counts)) (now (a .thresholds))))
-    (sym (judged .before .too-few .ensures) ∙ judged .if1 .left) (rw (called .before .before .before .before .record-of2 .ensures) at (called .refer .ensures))
+    (sym (judged .before .too-few .ensures) ∙ judged .if1 .left)
+    (rw (called .before .before .before .before .record-of2 .ensures) at (called .refer .ensures))
     (c .before .before .before .before .before .answer-words3 .ensures) (c .before .before .store-if2 .ensures)
 
 pub rockgingham-refer-spec : {M : Type 1} → statement M

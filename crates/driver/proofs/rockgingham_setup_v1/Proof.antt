@@ -19,7 +19,9 @@ same-length : tie.Need-same-length
 same-length c = search needs
 
 returns : tie.Need-returns
-returns c = setup-few _ _ (sym (c .before .before .too-few .ensures) ∙ c .before .if1 .taken) (c .few-for-setup .ensures ∙ ap fewForSetup (c .before .before .before .before .settings-from .ensures))
+returns c =
+    setup-few _ _ (sym (c .before .before .too-few .ensures) ∙ c .before .if1 .taken)
+    (c .few-for-setup .ensures ∙ ap fewForSetup (c .before .before .before .before .settings-from .ensures))
 
 setup-requires : tie.Need-setup-requires
 setup-requires c κs = tt

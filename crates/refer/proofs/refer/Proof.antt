@@ -82,7 +82,8 @@ same-length-6 c = refl
 
 returns-3 : tie.Need-returns-3
 returns-3 c = let two = c .before .before .before in
-    rw (c .refused3 .ensures) (sym (refer-full _ _ (not-torn (first-passed two)) (not-short two) (sym (c .before .before .is-full .ensures) ∙ c .before .if3 .taken)))
+    rw (c .refused3 .ensures) (sym (refer-full _ _ (not-torn (first-passed two)) (not-short two)
+    (sym (c .before .before .is-full .ensures) ∙ c .before .if3 .taken)))
 
 hash-of-requires : tie.Need-hash-of-requires
 hash-of-requires c κs = tt
@@ -91,7 +92,8 @@ counted-in-requires : tie.Need-counted-in-requires
 counted-in-requires c κs =
     let three = c .before .before .before in
     let b = whole _ (not-torn (first-passed (second-passed three))) in
-    (omega (arith, b .references-high, eqb-false (start (first-passed (second-passed three)) .args .kept .numbers .references) mostReferences (not-full three)), b .sampled-high, omega arith)
+    let n = start (first-passed (second-passed three)) .args .kept .numbers .references in
+    (omega (arith, b .references-high, eqb-false n mostReferences (not-full three)), b .sampled-high, omega arith)
 
 same-length-7 : tie.Need-same-length-7
 same-length-7 c = refl

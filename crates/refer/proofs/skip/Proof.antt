@@ -60,7 +60,8 @@ counted-in-requires : tie.Need-counted-in-requires
 counted-in-requires c κs =
     let room = c .before .before .before in
     let b = whole _ (not-torn (room .before .before .before .before)) in
-    (omega (arith, b .references-high, eqb-false (room .before .before .before .before .before .before .before .before .before .args .kept .numbers .references) mostReferences (not-full room)), b .sampled-high, omega arith)
+    let n = room .before .before .before .before .before .before .before .before .before .args .kept .numbers .references in
+    (omega (arith, b .references-high, eqb-false n mostReferences (not-full room)), b .sampled-high, omega arith)
 
 returns-5 : tie.Need-returns-5
 returns-5 c =
