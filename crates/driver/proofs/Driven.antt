@@ -1,4 +1,4 @@
--- What a C caller holds and gets. A call on the words is the rules' call on their record (`OnHeld`), and each call of the rules either accepts or
+-- What a C caller holds and gets. A call on the words is the rules' call on their record (`onHeld`), and each call of the rules either accepts or
 -- leaves everything and has a number that is not 0 (`Sound`); the statements follow from the two. Assumes nothing.
 use Prim.Native.Nat.{ℕ}
 use mathlib.Core.Path.{_≡_, refl, sym, ap, subst, _∙_}
@@ -22,7 +22,7 @@ use Rattle.rules.specs.Order.{Outcome, outcome, Judged, says, NoneHolds}
 use Rattle.rules.specs.Events.{eventBytes, eventLength, readOf, readOrder, writeOf, writeOrder}
 use Rattle.rules.specs.Layout.{Tracker, freshRecord, freshTables, fresh}
 use Rattle.rules.specs.Calls.{setupOf, restartOf, restartOrder, startedOver, restartOver, stepOf, referOf, referOrder, pointOf, pointOrder}
-use Rattle.rules.specs.Calls.{plotOf, applyOf}
+use Rattle.rules.specs.Calls.{plotOf}
 use Rattle.rules.specs.History.{Reference}
 use Rattle.rules.proofs.Tests.{cases, clash}
 use Rattle.rules.proofs.Order.{not-both, says-given, says-accepted, says-some, leaves-was}
@@ -39,14 +39,14 @@ use Rattle.feed.proofs.Laws.{Took, apply-either, by-feeding}
 use Rattle.feed.proofs.Pieces.{taken-alone}
 use Rattle.feed.proofs.Runs.{ran}
 use Rattle.words.specs.Words.{fewWords, recordOf, put, storedIf, returned, answerWords, pointWords, plotWords, eventWords}
-use Rattle.words.specs.Words.{gotWords, appliedWords, writtenWords, fedWords, giving}
+use Rattle.words.specs.Words.{gotWords, appliedWords, writtenWords, fedWords}
 use Rattle.words.proofs.Laws.{put-length, record-of-put}
 use Rattle.driver.specs.Calls.{Held, held, trackerIn, returning, keeping, onHeld, onWords, setupInOrder, setupHeld, setupIn}
 use Rattle.driver.specs.Calls.{restartIn, referIn, applyGot, applyIn, fedIn, feedIn, writeIn}
-use Rattle.driver.specs.Driven.{Accepted, Taken, ZeroWhen, ZeroIsAccepted, LeftAsItWas, FedAlone, TooFew, SamePast}
+use Rattle.driver.specs.Driven.{Accepted, AcceptedOn, ZeroWhen, ZeroIsAccepted, LeftAsItWas, FedAlone, TooFew, SamePast}
 use Rattle.driver.specs.Driven.{PastTheRecord, StaleByNumber}
 use Rattle.driver.specs.Driven.{HoldsRun, FedRun, CallsAreARun, ThresholdIn, LiveListIn, NothingElseIn, ReferencesIn, FullRateIn}
-use Rattle.driver.proofs.Laws.{answer-number, stored-same, setup-few}
+use Rattle.driver.proofs.Laws.{answer-number, stored-same, by-words, setup-few, got-is, fed-by}
 
 -- ---- a result, by its number
 
@@ -161,11 +161,6 @@ refer-sound x s = refer-either x s
     (λ a. accepts _ (ap (λ o. o .result) (refer-accept x s a)))
     (λ n e. refuses n (refer-some x s (ap (λ o. o .result) e)) e)
 
--- what an event that was read gives and leaves
-got-is : {g : Got} {o : Outcome (Unit {0}) Tracker} (bytes : List ℕ) (s : Tracker) → readOf bytes ≡ gives g → applyOf (g .event) s ≡ o
-    → applyGot (readOf bytes) s ≡ outcome (giving (g .taken) (o .result)) (o .left)
-got-is {g} bytes s e is = ap (λ z. applyGot z s) e ∙ ap (λ o. outcome (giving (g .taken) (o .result)) (o .left)) is
-
 apply-sound : (bytes : List ℕ) (s : Tracker) → Sound (applyGot (readOf bytes) s) s
 apply-sound bytes s = result-cases (readOf bytes)
     (λ g e. apply-either s (g .event)
@@ -190,35 +185,35 @@ enough-put kept w e = ap (λ n. ltb n 9) (put-length kept w) ∙ e
 held-put : (h : Held) (s : Tracker) → fewWords (h .words) ≡ false → trackerIn (held (put (s .kept) (h .words)) (s .tables)) ≡ s
 held-put h s e = λ i. record { kept = record-of-put (s .kept) (h .words) e i; tables = s .tables }
 
-two-not-zero : _≡_ {A = ℕ} 2 0 → ⊥
-two-not-zero e = omega arith
+-- a number that is 2 for too few words, and else the result's
+words-zero : {A : Type 0} {n : ℕ} (w : List ℕ) (s : Result A) → (s ≡ refused 0 → ⊥) → (fewWords w ≡ true → n ≡ 2)
+    → (fewWords w ≡ false → n ≡ numberOf s) → ZeroWhen n (AcceptedOn w s)
+words-zero w s some-number few enough = cases (fewWords w)
+    (λ e. ((λ z. absurd (two-not-zero (sym (few e) ∙ z))), (λ p. clash e (p .0))))
+    (λ e. let zero = zero-when s some-number in ((λ z. (e, zero .0 (sym (enough e) ∙ z))), (λ p. enough e ∙ zero .1 (p .1))))
+  where
+    two-not-zero : _≡_ {A = ℕ} 2 0 → ⊥
+    two-not-zero e = omega arith
 
 module _ {A : Type 0} (call : Tracker → Outcome A Tracker) (h : Held) where
-  by-words : (b : Bool) → fewWords (h .words) ≡ b → onHeld call h ≡ cond b (outcome (refused 2) h) (keeping h (call (trackerIn h)))
-  by-words b e = ap (λ z. cond z (outcome (refused 2) h) (keeping h (call (trackerIn h)))) e
-
   held-past : SamePast h (onHeld call h .left)
   held-past = cases (fewWords (h .words))
-      (λ e. subst (λ z. SamePast h (z .left)) (sym (by-words true e)) (refl, refl))
-      (λ e. subst (λ z. SamePast h (z .left)) (sym (by-words false e))
+      (λ e. subst (λ z. SamePast h (z .left)) (sym (by-words call h true e)) (refl, refl))
+      (λ e. subst (λ z. SamePast h (z .left)) (sym (by-words call h false e))
       (past-stored (eqb (numberOf (call (trackerIn h) .result)) 0) (call (trackerIn h) .left .kept) (h .words)))
 
   module _ (sound : Sound (call (trackerIn h)) (trackerIn h)) where
-    held-zero : ZeroWhen (numberOf (onHeld call h .result)) (Taken (h .words) (call (trackerIn h) .result))
-    held-zero = cases (fewWords (h .words))
-        (λ e. ((λ z. absurd (two-not-zero (sym (ap (λ o. numberOf (o .result)) (by-words true e)) ∙ z))), (λ p. clash e (p .0))))
-        (λ e.
-        let q = ap (λ o. numberOf (o .result)) (by-words false e) in
-        let w = zero-when (call (trackerIn h) .result) (never sound) in
-        ((λ z. (e, w .0 (sym q ∙ z))), (λ p. q ∙ w .1 (p .1))))
+    held-zero : ZeroWhen (numberOf (onHeld call h .result)) (AcceptedOn (h .words) (call (trackerIn h) .result))
+    held-zero = words-zero (h .words) (call (trackerIn h) .result) (never sound)
+        (λ e. ap (λ o. numberOf (o .result)) (by-words call h true e)) (λ e. ap (λ o. numberOf (o .result)) (by-words call h false e))
 
     held-was : (numberOf (onHeld call h .result) ≡ 0 → ⊥) → onHeld call h .left ≡ h
     held-was nonzero = cases (fewWords (h .words))
-        (λ e. ap (λ o. o .left) (by-words true e))
-        (λ e. ap (λ o. o .left) (by-words false e) ∙ by e sound)
+        (λ e. ap (λ o. o .left) (by-words call h true e))
+        (λ e. ap (λ o. o .left) (by-words call h false e) ∙ by e sound)
       where
         by : fewWords (h .words) ≡ false → Sound (call (trackerIn h)) (trackerIn h) → keeping h (call (trackerIn h)) .left ≡ h
-        by e (accepts a r) = absurd (nonzero (ap (λ o. numberOf (o .result)) (by-words false e) ∙ ap numberOf r))
+        by e (accepts a r) = absurd (nonzero (ap (λ o. numberOf (o .result)) (by-words call h false e) ∙ ap numberOf r))
         by e (refuses n k r) = ap (λ o. keeping h o .left) r ∙ ap (λ z. held z (h .tables)) (stored-same (eqb n 0) (h .words))
 
     -- accepted: what is held is what the rules left
@@ -229,25 +224,20 @@ module _ {A : Type 0} (call : Tracker → Outcome A Tracker) (h : Held) where
         let after = call (trackerIn h) .left in
         let number = accepted-zero (call (trackerIn h) .result) (held-zero .0 z .1) in
         let is : onHeld call h .left ≡ held (put (after .kept) (h .words)) (after .tables) =
-        ap (λ o. o .left) (by-words false e) ∙ ap (λ n. held (storedIf (eqb n 0) (after .kept) (h .words)) (after .tables)) number in
+        ap (λ o. o .left) (by-words call h false e) ∙ ap (λ n. held (storedIf (eqb n 0) (after .kept) (h .words)) (after .tables)) number in
         subst (HoldsRun past) (sym is)
         (record { enough = enough-put (after .kept) (h .words) e; run = subst (Run past) (sym (held-put h after e)) run })
 
 -- ---- points, on the words
-
-words-zero : {A : Type 0} (w : List ℕ) (s : Result A) → (s ≡ refused 0 → ⊥) → ZeroWhen (numberOf (onWords w s)) (Taken w s)
-words-zero w s some-number = cases (fewWords w)
-    (λ e. ((λ z. absurd (two-not-zero (sym (ap (λ b. numberOf (cond b (refused 2) s)) e) ∙ z))), (λ p. clash e (p .0))))
-    (λ e.
-    let q = ap (λ b. numberOf (cond b (refused 2) s)) e in
-    let zero = zero-when s some-number in
-    ((λ z. (e, zero .0 (sym q ∙ z))), (λ p. q ∙ zero .1 (p .1))))
 
 enough-words : {A : Type 0} (w : List ℕ) (s : Result A) → fewWords w ≡ false → onWords w s ≡ s
 enough-words w s e = ap (λ b. cond b (refused 2) s) e
 
 few-words : {A : Type 0} (w : List ℕ) (s : Result A) → fewWords w ≡ true → onWords w s ≡ refused 2
 few-words w s e = ap (λ b. cond b (refused 2) s) e
+
+on-words-zero : {A : Type 0} (w : List ℕ) (s : Result A) → (s ≡ refused 0 → ⊥) → ZeroWhen (numberOf (onWords w s)) (AcceptedOn w s)
+on-words-zero w s some-number = words-zero w s some-number (λ e. ap numberOf (few-words w s e)) (λ e. ap numberOf (enough-words w s e))
 
 -- ---- setup
 
@@ -277,12 +267,12 @@ module _ (given : Settings) (h : Held) where
   setup-given p = setup-accept given (h .tables) (p .0) (p .1 .0)
 
   -- the other way: what the rules accept, with enough words
-  passed-by : Taken (h .words) (setupOf given (h .tables) .result) → NoneHolds order
+  passed-by : AcceptedOn (h .words) (setupOf given (h .tables) .result) → NoneHolds order
   passed-by t = result-cases (setupOf given (h .tables) .result)
       (λ kept e. let b = setup-begins given (h .tables) kept e in (b .range, (b .long, (t .0, tt))))
       (λ n e. absurd (subst Accepted e (t .1)))
 
-  setup-zero : ZeroWhen (setupIn given h .value) (Taken (h .words) (setupOf given (h .tables) .result))
+  setup-zero : ZeroWhen (setupIn given h .value) (AcceptedOn (h .words) (setupOf given (h .tables) .result))
   setup-zero = (
     (λ z. let p = passed z in (p .1 .1 .0, subst Accepted (sym (ap (λ o. o .result) (setup-given p))) tt)),
     (λ t. ap numberOf (says-given order tt (passed-by t))),
@@ -314,29 +304,23 @@ module _ (bytes : List ℕ) (h : Held) where
   abbrev fed : Feeding
   fed = feedOf bytes (trackerIn h)
 
-  fed-by : (b : Bool) → fewWords (h .words) ≡ b → feedIn bytes h ≡ cond b (returned (fedWords 0 (refused 2)) h) (fedIn h (feedOf bytes (trackerIn h)))
-  fed-by b e = ap (λ z. cond z (returned (fedWords 0 (refused 2)) h) (fedIn h (feedOf bytes (trackerIn h)))) e
-
-  feed-zero : ZeroWhen (feedIn bytes h .value .refusal) (Taken (h .words) (feedOf bytes (trackerIn h) .result))
-  feed-zero = cases (fewWords (h .words))
-      (λ e. ((λ z. absurd (two-not-zero (sym (ap (λ o. o .value .refusal) (fed-by true e)) ∙ z))), (λ p. clash e (p .0))))
-      (λ e.
-      let q = ap (λ o. o .value .refusal) (fed-by false e) ∙ fed-number (fed .taken) (fed .result) in
-      let zero = zero-when (fed .result) (feed-some bytes (trackerIn h)) in
-      ((λ z. (e, zero .0 (sym q ∙ z))), (λ p. q ∙ zero .1 (p .1))))
+  feed-zero : ZeroWhen (feedIn bytes h .value .refusal) (AcceptedOn (h .words) (feedOf bytes (trackerIn h) .result))
+  feed-zero = words-zero (h .words) (fed .result) (feed-some bytes (trackerIn h))
+      (λ e. ap (λ o. o .value .refusal) (fed-by bytes h true e))
+      (λ e. ap (λ o. o .value .refusal) (fed-by bytes h false e) ∙ fed-number (fed .taken) (fed .result))
 
   feed-past : SamePast h (feedIn bytes h .left)
   feed-past = cases (fewWords (h .words))
-      (λ e. subst (λ z. SamePast h (z .left)) (sym (fed-by true e)) (refl, refl))
-      (λ e. subst (λ z. SamePast h (z .left)) (sym (fed-by false e)) (past-put (fed .left .kept) (h .words)))
+      (λ e. subst (λ z. SamePast h (z .left)) (sym (fed-by bytes h true e)) (refl, refl))
+      (λ e. subst (λ z. SamePast h (z .left)) (sym (fed-by bytes h false e)) (past-put (fed .left .kept) (h .words)))
 
   -- the bytes taken
   taken-is : fewWords (h .words) ≡ false → feedIn bytes h .value .taken ≡ fed .taken
-  taken-is e = ap (λ o. o .value .taken) (fed-by false e) ∙ fed-taken (fed .taken) (fed .result)
+  taken-is e = ap (λ o. o .value .taken) (fed-by bytes h false e) ∙ fed-taken (fed .taken) (fed .result)
 
   -- what is held after feeding is what it left
   fed-held : (past : List Reference) → fewWords (h .words) ≡ false → Run past (fed .left) → HoldsRun past (feedIn bytes h .left)
-  fed-held past e run = subst (λ z. HoldsRun past (z .left)) (sym (fed-by false e)) (record {
+  fed-held past e run = subst (λ z. HoldsRun past (z .left)) (sym (fed-by bytes h false e)) (record {
     enough = enough-put (fed .left .kept) (h .words) e;
     run = subst (Run past) (sym (held-put h (fed .left) e)) run;
   })
@@ -344,10 +328,10 @@ module _ (bytes : List ℕ) (h : Held) where
   feed-run : FedRun bytes h
   feed-run = cases (fewWords (h .words))
       (λ e.
-      let left = ap (λ o. o .left) (fed-by true e) in
+      let left = ap (λ o. o .left) (fed-by bytes h true e) in
       record {
         events = [];
-        are = subst (λ n. Events (take n bytes) []) (sym (ap (λ o. o .value .taken) (fed-by true e))) none;
+        are = subst (λ n. Events (take n bytes) []) (sym (ap (λ o. o .value .taken) (fed-by bytes h true e))) none;
         continued = λ past holds. subst (HoldsRun past) (sym left) holds;
         from-fresh-start = λ b. clash b refl;
       })
@@ -377,7 +361,7 @@ accepted-over : (kept : Record) (r : Result Record) (t : Tables) → Accepted r 
 accepted-over kept (gives k) t a = tt
 accepted-over kept (refused n) t a = absurd a
 
-restart-zero : (h : Held) → ZeroWhen (restartIn h .value) (Taken (h .words) (restartOf (recordOf (h .words)) (h .tables) .result))
+restart-zero : (h : Held) → ZeroWhen (restartIn h .value) (AcceptedOn (h .words) (restartOf (recordOf (h .words)) (h .tables) .result))
 restart-zero h =
     let kept = recordOf (h .words) in
     let o = restartOf kept (h .tables) in
@@ -392,9 +376,9 @@ zero-is-accepted = record {
   of-restart = λ h. restart-zero h;
   of-refer = λ x h. zero-by (answer-number (onHeld (referOf x) h .result)) (held-zero (referOf x) h (refer-sound x (trackerIn h)));
   of-point = λ w b k g. zero-by (point-number (onWords w (pointOf (recordOf w) b k g)))
-      (words-zero w (pointOf (recordOf w) b k g) (point-some (recordOf w) b k g));
+      (on-words-zero w (pointOf (recordOf w) b k g) (point-some (recordOf w) b k g));
   of-plot = λ w b k g. zero-by (plot-number (onWords w (plotOf (recordOf w) b k g)))
-      (words-zero w (plotOf (recordOf w) b k g) (plot-some (recordOf w) b k g));
+      (on-words-zero w (plotOf (recordOf w) b k g) (plot-some (recordOf w) b k g));
   of-apply = λ bytes h. zero-by (applied-number (onHeld (applyGot (readOf bytes)) h .result))
       (held-zero (applyGot (readOf bytes)) h (apply-sound bytes (trackerIn h)));
   of-feed = feed-zero;

@@ -26,11 +26,11 @@ use Rattle.words.specs.declared.AnswerWords.{AnswerWords}
 use Rattle.words.specs.declared.AppliedWords.{AppliedWords}
 use Rattle.words.specs.declared.WrittenWords.{WrittenWords}
 use Rattle.words.specs.declared.FedWords.{FedWords}
-use Rattle.words.specs.Words.{fewWords, recordOf, put, storedIf, storedStart, Returned, returned, giving, answerWords, appliedWords}
+use Rattle.words.specs.Words.{fewWords, recordOf, put, storedIf, storedStart, Returned, returned, answerWords, appliedWords, appliedFrom}
 use Rattle.words.specs.Words.{writtenWords, fedWords}
 use Rattle.words.proofs.Laws.{put-same}
-use Rattle.driver.specs.Calls.{Held, held, trackerIn, returning, keeping, onHeld, setupIn, fewForSetup, restartIn, referIn, applyGot, applyIn}
-use Rattle.driver.specs.Calls.{fedIn, feedIn}
+use Rattle.driver.specs.Calls.{Held, held, trackerIn, returning, keeping, onHeld, setupIn, fewForSetup, restartIn, referIn, giving, applyGot}
+use Rattle.driver.specs.Calls.{applyIn, fedIn, feedIn}
 
 -- the refusal stands first
 pub answer-number : (s : Result Reply) → answerWords s .refusal ≡ numberOf s
@@ -51,24 +51,25 @@ wrote {f} {s} {r} {buffer} e is = ap (λ z. returned z buffer) is ∙ ap (return
 
 -- ---- any call that judges the record
 
-module _ {A B : Type 0} (words : Result A → B) (call : Tracker → Outcome A Tracker) (h : Held) where
-  -- what is left turns on whether the words are too few
-  by-words : (b : Bool) → fewWords (h .words) ≡ b
-      → returning words (onHeld call h) ≡ returning words (cond b (outcome (refused 2) h) (keeping h (call (trackerIn h))))
-  by-words b is = ap (λ z. returning words (cond z (outcome (refused 2) h) (keeping h (call (trackerIn h))))) is
+-- what it leaves turns on whether the words are too few
+pub by-words : {A : Type 0} (call : Tracker → Outcome A Tracker) (h : Held) (b : Bool) → fewWords (h .words) ≡ b
+    → onHeld call h ≡ cond b (outcome (refused 2) h) (keeping h (call (trackerIn h)))
+by-words call h b is = ap (λ z. cond z (outcome (refused 2) h) (keeping h (call (trackerIn h)))) is
 
+module _ {A B : Type 0} (words : Result A → B) (call : Tracker → Outcome A Tracker) (h : Held) where
   -- the words are too few
   pub too-few : {r : B} → fewWords (h .words) ≡ true → r ≡ words (refused 2) → returned r h ≡ returning words (onHeld call h)
-  too-few few is = ap (λ z. returned z h) is ∙ sym (by-words true few)
+  too-few few is = ap (λ z. returned z h) is ∙ sym (ap (returning words) (by-words call h true few))
 
-  -- the record and the tables are what the rules left; `given` is what is stored by
+  -- the record and the tables are what the rules left; by the number n the record is stored or not
   module _ {s : Result A} {kept : Record} {t : Tables} (enough : fewWords (h .words) ≡ false)
       (e : outcome s (record { kept = kept; tables = t }) ≡ call (trackerIn h)) where
     pub stored-by : {r : B} {n : ℕ} {w : List ℕ} → r ≡ words s → n ≡ numberOf s → w ≡ storedIf (eqb n 0) kept (h .words)
         → returned r (held w t) ≡ returning words (onHeld call h)
     stored-by {r} {n} {w} is number stored =
         let at : w ≡ storedIf (eqb (numberOf s) 0) kept (h .words) = stored ∙ ap (λ z. storedIf (eqb z 0) kept (h .words)) number in
-        (λ i. returned (is i) (held (at i) t)) ∙ ap (λ o. returning words (keeping h o)) e ∙ sym (by-words false enough)
+        (λ i. returned (is i) (held (at i) t)) ∙ ap (λ o. returning words (keeping h o)) e
+        ∙ sym (ap (returning words) (by-words call h false enough))
 
 -- ---- a reference
 
@@ -133,6 +134,11 @@ module _ (h : Held) where
 
 -- ---- trace events
 
+-- what an event that was read gives and leaves
+pub got-is : {g : Got} {o : Outcome (Unit {0}) Tracker} (bytes : List ℕ) (s : Tracker) → readOf bytes ≡ gives g → applyOf (g .event) s ≡ o
+    → applyGot (readOf bytes) s ≡ outcome (giving (g .taken) (o .result)) (o .left)
+got-is {g} bytes s e is = ap (λ z. applyGot z s) e ∙ ap (λ o. outcome (giving (g .taken) (o .result)) (o .left)) is
+
 module _ (bytes : List ℕ) (h : Held) where
   -- an event that cannot be read
   pub apply-unread : {n : ℕ} {r : AppliedWords} → fewWords (h .words) ≡ false → readOf bytes ≡ refused n → r ≡ appliedWords (refused n)
@@ -144,35 +150,34 @@ module _ (bytes : List ℕ) (h : Held) where
   -- and one that is fed alone
   abbrev fedAlone : Feeding → Returned AppliedWords Held
   fedAlone f =
-      let given = fedWords (f .taken) (f .result) in
-      returned (record { refusal = given .refusal; taken = given .taken })
+      returned (appliedFrom (fedWords (f .taken) (f .result)))
       (held (storedIf (not (eqb (f .taken) 0)) (f .left .kept) (h .words)) (f .left .tables))
 
   module _ {g : Got} (enough : fewWords (h .words) ≡ false) (read : readOf bytes ≡ gives g) where
-    gave : {o : Outcome (Unit {0}) Tracker} → applyOf (g .event) (trackerIn h) ≡ o
-        → outcome (giving (g .taken) (o .result)) (o .left) ≡ applyGot (readOf bytes) (trackerIn h)
-    gave is = sym (ap (λ z. applyGot z (trackerIn h)) read ∙ ap (λ o. outcome (giving (g .taken) (o .result)) (o .left)) is)
-
     alone : (f : Feeding) → f ≡ feedOf (take (g .taken) bytes) (trackerIn h) → fedAlone f ≡ applyIn bytes h
     alone f e = one-event bytes (trackerIn h) g read
         (λ left is fed.
         let some : eqb (g .taken) 0 ≡ false = ne-eqb (g .taken) 0 (λ z. omega (arith, taken bytes read)) in
         ap fedAlone (e ∙ fed)
-        ∙ stored-by appliedWords (applyGot (readOf bytes)) h enough (gave is) refl refl (ap (λ b. storedIf (not b) (left .kept) (h .words)) some))
+        ∙ stored-by appliedWords (applyGot (readOf bytes)) h enough (sym (got-is bytes (trackerIn h) read is)) refl refl
+        (ap (λ b. storedIf (not b) (left .kept) (h .words)) some))
         (λ n is fed. ap fedAlone (e ∙ fed)
-        ∙ stored-by appliedWords (applyGot (readOf bytes)) h enough (gave is) refl refl (sym (stored-same (eqb n 0) (h .words))))
+        ∙ stored-by appliedWords (applyGot (readOf bytes)) h enough (sym (got-is bytes (trackerIn h) read is)) refl refl
+        (sym (stored-same (eqb n 0) (h .words))))
 
-    pub apply-stored : {f : Feeding} {given : FedWords} {w : List ℕ} → f ≡ feedOf (take (g .taken) bytes) (trackerIn h)
-        → given ≡ fedWords (f .taken) (f .result) → w ≡ storedIf (not (eqb (f .taken) 0)) (f .left .kept) (h .words)
-        → returned (record { refusal = given .refusal; taken = given .taken }) (held w (f .left .tables)) ≡ applyIn bytes h
+    pub apply-stored : {f : Feeding} {r : AppliedWords} {w : List ℕ} → f ≡ feedOf (take (g .taken) bytes) (trackerIn h)
+        → r ≡ appliedFrom (fedWords (f .taken) (f .result)) → w ≡ storedIf (not (eqb (f .taken) 0)) (f .left .kept) (h .words)
+        → returned r (held w (f .left .tables)) ≡ applyIn bytes h
     apply-stored {f} e is stored =
-        (λ i. returned (record { refusal = is i .refusal; taken = is i .taken }) (held (stored i) (f .left .tables))) ∙ alone f e
+        (λ i. returned (is i) (held (stored i) (f .left .tables))) ∙ alone f e
 
-  -- feeding
+  -- feeding, by whether the words are too few
+  pub fed-by : (b : Bool) → fewWords (h .words) ≡ b
+      → feedIn bytes h ≡ cond b (returned (fedWords 0 (refused 2)) h) (fedIn h (feedOf bytes (trackerIn h)))
+  fed-by b e = ap (λ z. cond z (returned (fedWords 0 (refused 2)) h) (fedIn h (feedOf bytes (trackerIn h)))) e
+
   pub feed-few : {r : FedWords} → fewWords (h .words) ≡ true → r ≡ fedWords 0 (refused 2) → returned r h ≡ feedIn bytes h
-  feed-few few is =
-      ap (λ z. returned z h) is
-      ∙ sym (ap (λ b. cond b (returned (fedWords 0 (refused 2)) h) (fedIn h (feedOf bytes (trackerIn h)))) few)
+  feed-few few is = ap (λ z. returned z h) is ∙ sym (fed-by true few)
 
   -- if nothing was taken, the record is the words' own
   stored-fed : (f : Feeding) → f ≡ feedOf bytes (trackerIn h)
@@ -189,5 +194,4 @@ module _ (bytes : List ℕ) (h : Held) where
       → returned r (held w (f .left .tables)) ≡ feedIn bytes h
   feed-stored {f} {r} {w} enough e is stored =
       let at : w ≡ put (f .left .kept) (h .words) = stored ∙ stored-fed f e in
-      (λ i. returned (is i) (held (at i) (f .left .tables))) ∙ ap (fedIn h) e
-      ∙ sym (ap (λ b. cond b (returned (fedWords 0 (refused 2)) h) (fedIn h (feedOf bytes (trackerIn h)))) enough)
+      (λ i. returned (is i) (held (at i) (f .left .tables))) ∙ ap (fedIn h) e ∙ sym (fed-by false enough)

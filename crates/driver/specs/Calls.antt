@@ -23,7 +23,7 @@ use Rattle.words.specs.declared.EventWords.{EventWords}
 use Rattle.words.specs.declared.AppliedWords.{AppliedWords}
 use Rattle.words.specs.declared.WrittenWords.{WrittenWords}
 use Rattle.words.specs.declared.FedWords.{FedWords}
-use Rattle.words.specs.Words.{fewWords, recordOf, put, storedIf, Returned, returned, giving}
+use Rattle.words.specs.Words.{fewWords, recordOf, put, storedIf, Returned, returned}
 use Rattle.words.specs.Words.{answerWords, pointWords, plotWords, eventWords, appliedWords, writtenWords, fedWords}
 
 -- the version of the interface
@@ -104,6 +104,11 @@ abbrev pub plotIn : (words : List ℕ) → Shape → (point : ℕ) → Histogram
 plotIn w believed k g = plotWords (onWords w (plotOf (recordOf w) believed k g))
 
 -- ---- trace events
+
+-- a call that is accepted gives this instead
+abbrev pub giving : {A B : Type 0} → B → Result A → Result B
+giving b (refused n) = refused n
+giving b (gives a) = gives b
 
 -- an event that was read, applied; it gives the number of bytes that the event took
 abbrev pub applyGot : Result Got → Tracker → Outcome ℕ Tracker

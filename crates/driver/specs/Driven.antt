@@ -32,23 +32,23 @@ Accepted (refused n) = ⊥
 Accepted (gives a) = Unit {0}
 
 -- the words are enough for a record, and the rules accept the call
-abbrev pub Taken : {A : Type 0} → List ℕ → Result A → Type 0
-Taken w result = (fewWords w ≡ false) × Accepted result
+abbrev pub AcceptedOn : {A : Type 0} → List ℕ → Result A → Type 0
+AcceptedOn w result = (fewWords w ≡ false) × Accepted result
 
 abbrev pub ZeroWhen : (number : ℕ) → Type 0 → Type 0
 ZeroWhen number P = (number ≡ 0 → P) × (P → number ≡ 0)
 
 pub record ZeroIsAccepted : Type 0 where
-  pub of-setup : (given : Settings) (h : Held) → ZeroWhen (setupIn given h .value) (Taken (h .words) (setupOf given (h .tables) .result))
-  pub of-restart : (h : Held) → ZeroWhen (restartIn h .value) (Taken (h .words) (restartOf (recordOf (h .words)) (h .tables) .result))
-  pub of-refer : (x : ℕ) (h : Held) → ZeroWhen (referIn x h .value .refusal) (Taken (h .words) (referOf x (trackerIn h) .result))
+  pub of-setup : (given : Settings) (h : Held) → ZeroWhen (setupIn given h .value) (AcceptedOn (h .words) (setupOf given (h .tables) .result))
+  pub of-restart : (h : Held) → ZeroWhen (restartIn h .value) (AcceptedOn (h .words) (restartOf (recordOf (h .words)) (h .tables) .result))
+  pub of-refer : (x : ℕ) (h : Held) → ZeroWhen (referIn x h .value .refusal) (AcceptedOn (h .words) (referOf x (trackerIn h) .result))
   pub of-point : (w : List ℕ) (believed : Shape) (k : ℕ) (g : Histogram)
-      → ZeroWhen (pointIn w believed k g .refusal) (Taken w (pointOf (recordOf w) believed k g))
+      → ZeroWhen (pointIn w believed k g .refusal) (AcceptedOn w (pointOf (recordOf w) believed k g))
   pub of-plot : (w : List ℕ) (believed : Shape) (k : ℕ) (g : Histogram)
-      → ZeroWhen (plotIn w believed k g .refusal) (Taken w (plotOf (recordOf w) believed k g))
+      → ZeroWhen (plotIn w believed k g .refusal) (AcceptedOn w (plotOf (recordOf w) believed k g))
   pub of-apply : (bytes : List ℕ) (h : Held)
-      → ZeroWhen (applyIn bytes h .value .refusal) (Taken (h .words) (applyGot (readOf bytes) (trackerIn h) .result))
-  pub of-feed : (bytes : List ℕ) (h : Held) → ZeroWhen (feedIn bytes h .value .refusal) (Taken (h .words) (feedOf bytes (trackerIn h) .result))
+      → ZeroWhen (applyIn bytes h .value .refusal) (AcceptedOn (h .words) (applyGot (readOf bytes) (trackerIn h) .result))
+  pub of-feed : (bytes : List ℕ) (h : Held) → ZeroWhen (feedIn bytes h .value .refusal) (AcceptedOn (h .words) (feedOf bytes (trackerIn h) .result))
   pub of-read : (bytes : List ℕ) → ZeroWhen (readIn bytes .refusal) (Accepted (readOf bytes))
   pub of-write : (e : Event) (buffer : List ℕ) → ZeroWhen (writeIn e buffer .value .refusal) (Accepted (writeOf e buffer .result))
 

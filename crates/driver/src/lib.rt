@@ -12,7 +12,6 @@ use rules::Reading;
 use rules::Refusal;
 use rules::Settings;
 use rules::SetupBody;
-use rules::Taken;
 use words::AnswerWords;
 use words::AppliedWords;
 use words::AskedSettings;
@@ -189,7 +188,7 @@ pub extern "C" fn rockgingham_apply_v1(
         ≡ applyIn (now (bytes .entry)) (heldBefore words locations counts thresholds) ⌝ }
 {
     if too_few(words) {
-        return applied_words(Taken::Refused(Refusal::Tables), 0);
+        return applied_words(fed_words(0, Ending::Refused(Refusal::Tables)));
     }
     match reading::read(bytes) {
         Reading::Got(_, taken) => {
@@ -198,12 +197,9 @@ pub extern "C" fn rockgingham_apply_v1(
             let ending = fed.ending;
             let given = fed_words(fed.taken, ending);
             store_if(words, fed.taken != 0, fed.kept);
-            AppliedWords {
-                refusal: given.refusal,
-                taken: given.taken,
-            }
+            applied_words(given)
         }
-        Reading::Refused(why) => applied_words(Taken::Refused(why), 0),
+        Reading::Refused(why) => applied_words(fed_words(0, Ending::Refused(why))),
     }
 }
 

@@ -12,8 +12,9 @@ use Rattle.rules.specs.Answers.{Result, Got}
 use Rattle.feed.specs.Feed.{End}
 use Rattle.words.specs.declared.AskedSettings.{AskedSettings}
 use Rattle.words.specs.declared.Believed.{Believed}
+use Rattle.words.specs.declared.FedWords.{FedWords}
 use Rattle.words.specs.Words.{settingsFrom, shapeFrom, fewWords, recordOf, storedIf, returned, storedStart, answerWords, pointWords, plotWords}
-use Rattle.words.specs.Words.{eventWords, appliedWords, writtenWords, fedWords}
+use Rattle.words.specs.Words.{eventWords, writtenWords, fedWords, appliedFrom}
 
 abbrev Once : {A : Type 0} → A → Type 0
 Once {A} x = (r s : A) → r ≡ x → s ≡ x → r ≡ s
@@ -61,8 +62,8 @@ plot-words-once result = once _
 pub event-words-once : (result : Result Got) → Once (eventWords result)
 event-words-once result = once _
 
-pub applied-words-once : (result : Result ℕ) → Once (appliedWords result)
-applied-words-once result = once _
+pub applied-words-once : (fed : FedWords) → Once (appliedFrom fed)
+applied-words-once fed = once _
 
 pub written-words-once : (result : Result ℕ) → Once (writtenWords result)
 written-words-once result = once _

@@ -117,11 +117,6 @@ abbrev pub eventWords : Result Got → EventWords
 eventWords (refused n) = record { refusal = n; kind = 0; taken = 0; location = 0; offset = 0; length = 0; settings = noSettings }
 eventWords (gives g) = gotWords (g .event) (g .taken)
 
--- a call that is accepted gives this instead
-abbrev pub giving : {A B : Type 0} → B → Result A → Result B
-giving b (refused n) = refused n
-giving b (gives a) = gives b
-
 -- the number of bytes that an applied event took
 abbrev pub appliedWords : Result ℕ → AppliedWords
 appliedWords (refused n) = record { refusal = n; taken = 0 }
@@ -137,3 +132,7 @@ abbrev pub fedWords : (taken : ℕ) → Result End → FedWords
 fedWords taken (refused n) = record { refusal = n; taken = taken; incomplete = 0 }
 fedWords taken (gives whole) = record { refusal = 0; taken = taken; incomplete = 0 }
 fedWords taken (gives inside) = record { refusal = 0; taken = taken; incomplete = 1 }
+
+-- an event that was fed alone, as one that was applied
+abbrev pub appliedFrom : FedWords → AppliedWords
+appliedFrom fed = record { refusal = fed .refusal; taken = fed .taken }

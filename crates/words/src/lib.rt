@@ -13,15 +13,14 @@ use rules::Settings;
 use rules::SetupBody;
 use rules::Shape;
 use rules::Started;
-use rules::Taken;
 use rules::Written;
 ghost use mathlib.Core.Path.{_≡_};
 ghost use lib.ListN.{getD};
-ghost use Rattle.rules.specs.Answers.{startedResult, replyResult, pointResult, plotResult, takenResult, readingResult, writtenResult};
+ghost use Rattle.rules.specs.Answers.{startedResult, replyResult, pointResult, plotResult, readingResult, writtenResult};
 ghost use Rattle.feed.specs.Feed.{endingResult};
 ghost use Rattle.words.specs.Words.{settingsFrom, shapeFrom, fewWords, recordOf, wordsOf, put, storedIf, storedStart};
 ghost use Rattle.words.specs.Words.{answerWords, pointWords, plotWords, noSettings, askedBy, gotWords, eventWords};
-ghost use Rattle.words.specs.Words.{appliedWords, writtenWords, fedWords, returned, giving};
+ghost use Rattle.words.specs.Words.{writtenWords, fedWords, appliedFrom, returned};
 
 // How many words a record has.
 pub const RECORD_WORDS: usize = 9;
@@ -379,21 +378,6 @@ pub fn event_words(reading: Reading) -> EventWords
     }
 }
 
-pub fn applied_words(answer: Taken, taken: usize) -> AppliedWords
-    ensures { λ r. ⌜ r ≡ appliedWords (giving taken (takenResult answer)) ⌝ }
-{
-    match answer {
-        Taken::Whole => AppliedWords {
-            refusal: ACCEPTED,
-            taken: taken as u64,
-        },
-        Taken::Refused(why) => AppliedWords {
-            refusal: judge::number_of(why),
-            taken: 0,
-        },
-    }
-}
-
 pub fn written_words(answer: Written) -> WrittenWords
     ensures { λ r. ⌜ r ≡ writtenWords (writtenResult answer) ⌝ }
 {
@@ -429,5 +413,15 @@ pub fn fed_words(taken: usize, ending: Ending) -> FedWords
             taken: n,
             incomplete: 0,
         },
+    }
+}
+
+// An event that was fed alone, as one that was applied.
+pub fn applied_words(fed: FedWords) -> AppliedWords
+    ensures { λ r. ⌜ r ≡ appliedFrom fed ⌝ }
+{
+    AppliedWords {
+        refusal: fed.refusal,
+        taken: fed.taken,
     }
 }

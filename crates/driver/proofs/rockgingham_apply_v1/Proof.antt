@@ -7,7 +7,7 @@ use Rattle.rules.specs.Answers.{readingResult}
 use Rattle.rules.specs.Events.{readOf}
 use Rattle.rules.specs.Layout.{tablesOf}
 use Rattle.rules.proofs.Events.{taken}
-use Rattle.words.specs.Words.{appliedWords}
+use Rattle.words.specs.Words.{appliedWords, appliedFrom}
 use Rattle.driver.specs.Calls.{held, applyGot}
 use Rattle.driver.proofs.Laws.{too-few, apply-unread, apply-stored}
 use borrow.Author.Needs.{needs}
@@ -17,6 +17,9 @@ use Rattle.driver.proofs.rockgingham_apply_v1.Tie as tie
 too-few-requires : tie.Need-too-few-requires
 too-few-requires c κs = tt
 
+fed-words-requires : tie.Need-fed-words-requires
+fed-words-requires c κs = tt
+
 applied-words-requires : tie.Need-applied-words-requires
 applied-words-requires c κs = tt
 
@@ -25,9 +28,10 @@ same-length c = search needs
 
 returns : tie.Need-returns
 returns c =
-    too-few appliedWords (applyGot (readOf (now (c .before .before .before .before .before .before .before .before .before .args .bytes)))) _
-    (sym (c .before .before .too-few .ensures) ∙ c .before .if1 .taken)
-    (c .applied-words .ensures)
+    let a = c .before .before .before .before .before .before .before .before .before .before .args in
+    too-few appliedWords (applyGot (readOf (now (a .bytes)))) _
+    (sym (c .before .before .before .too-few .ensures) ∙ c .before .before .if1 .taken)
+    (c .applied-words .ensures ∙ ap appliedFrom (c .before .fed-words .ensures))
 
 read-requires : tie.Need-read-requires
 read-requires c κs = tt
@@ -47,17 +51,23 @@ record-of-requires c κs = tt
 feed-requires : tie.Need-feed-requires
 feed-requires c κs = tt
 
-fed-words-requires : tie.Need-fed-words-requires
-fed-words-requires c κs = tt
+fed-words-requires-2 : tie.Need-fed-words-requires-2
+fed-words-requires-2 c κs = tt
 
 store-if-requires : tie.Need-store-if-requires
 store-if-requires c κs = tt
 
+applied-words-requires-2 : tie.Need-applied-words-requires-2
+applied-words-requires-2 c κs = tt
+
 enum-known-why : tie.Need-enum-known-why
 enum-known-why c = search needs
 
-applied-words-requires-2 : tie.Need-applied-words-requires-2
-applied-words-requires-2 c κs = tt
+fed-words-requires-3 : tie.Need-fed-words-requires-3
+fed-words-requires-3 c κs = tt
+
+applied-words-requires-3 : tie.Need-applied-words-requires-3
+applied-words-requires-3 c κs = tt
 
 same-length-2 : tie.Need-same-length-2
 same-length-2 c = search needs
@@ -73,29 +83,32 @@ same-length-5 c = search needs
 
 returns-2 : tie.Need-returns-2
 returns-2 c =
-    let called = c .before .before .before .before .before .before .before .before .before .before .before .before in
+    let called = c .before .before .before .before .before .before .before .before .before .before .before .before .before in
     let read = called .before .before .before .before .before .before .before .before .before .before in
     let a = read .before .before .before .before .before .before .before .before .before .args in
     apply-stored _ (held (now (a .words)) (tablesOf (now (a .locations)) (now (a .counts)) (now (a .thresholds))))
     (sym (read .before .before .too-few .ensures) ∙ read .before .if1 .left)
     (sym (read .read .ensures) ∙ ap readingResult (called .before .before .before .before .before .before .before .before .taken .given .1))
     (rw (called .before .before .before .before .record-of .ensures) at (called .feed .ensures))
-    (c .before .before .before .before .before .fed-words .ensures) (c .before .before .store-if .ensures)
+    (c .applied-words2 .ensures ∙ ap appliedFrom (c .before .before .before .before .before .before .fed-words2 .ensures))
+    (c .before .before .before .store-if .ensures)
 
 same-length-6 : tie.Need-same-length-6
 same-length-6 c = search needs
 
 returns-3 : tie.Need-returns-3
 returns-3 c =
-    let read = c .before .before .before .before in
+    let read = c .before .before .before .before .before in
     apply-unread _ _ (sym (read .before .before .too-few .ensures) ∙ read .before .if1 .left)
-    (sym (read .read .ensures) ∙ ap readingResult (c .before .before .why .given .1)) (c .applied-words2 .ensures)
+    (sym (read .read .ensures) ∙ ap readingResult (c .before .before .before .why .given .1))
+    (c .applied-words3 .ensures ∙ ap appliedFrom (c .before .fed-words3 .ensures))
 
 pub rockgingham-apply-v1-spec : {M : Type 1} → statement M
 rockgingham-apply-v1-spec =
     tie.close
     (tie.spec
     too-few-requires
+    fed-words-requires
     applied-words-requires
     same-length
     returns
@@ -104,10 +117,12 @@ rockgingham-apply-v1-spec =
     slice-aggregate-event
     record-of-requires
     feed-requires
-    fed-words-requires
+    fed-words-requires-2
     store-if-requires
-    enum-known-why
     applied-words-requires-2
+    enum-known-why
+    fed-words-requires-3
+    applied-words-requires-3
     same-length-2
     same-length-3
     same-length-4
