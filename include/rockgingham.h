@@ -7,17 +7,16 @@
  * bytes of any length with any contents; no value has to be checked beforehand. A function keeps no state between calls and
  * allocates nothing: all memory is the caller's, lent for the call.
  *
- * EXAMPLE. A tracker that samples every reference, three references, and point 1 of its curve.
+ * EXAMPLE. A tracker that samples every reference, references to the blocks 0, 0 and 1, and point 1 of its curve.
  *
  *     enum { WORDS = ROCKGINGHAM_RECORD_WORDS, NEEDED = ROCKGINGHAM_COUNTS_NEEDED(16) };
  *     static uint64_t record[WORDS], locations[64], counts[NEEDED];
  *     static uint32_t thresholds[NEEDED];
  *     const struct rockgingham_settings settings = {64, ROCKGINGHAM_FULL_RATE, 1, 16, ROCKGINGHAM_HASH_MURMUR};
  *     const struct rockgingham_shape shape = {16, 1};
- *     const uint64_t blocks[] = {7, 7, 8};
  *     uint64_t refusal = rockgingham_setup(record, WORDS, settings, locations, 64, counts, NEEDED, thresholds, NEEDED);
- *     for (int i = 0; i < 3 && refusal == ROCKGINGHAM_ACCEPTED; i++)
- *         refusal = rockgingham_refer(record, WORDS, blocks[i], locations, 64, counts, NEEDED, thresholds, NEEDED).refusal;
+ *     for (uint64_t i = 0; i < 3 && refusal == ROCKGINGHAM_ACCEPTED; i++)
+ *         refusal = rockgingham_refer(record, WORDS, i / 2, locations, 64, counts, NEEDED, thresholds, NEEDED).refusal;
  *     struct rockgingham_point point = rockgingham_point(record, WORDS, shape, 1, counts, NEEDED, thresholds, NEEDED);
  *     printf("refusal %d, hits %d of %d\n", (int)point.refusal, (int)point.hits, (int)point.total);
  *

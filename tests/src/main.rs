@@ -38,7 +38,7 @@ struct Sizes {
 const NATIVE: Sizes = Sizes {
     damaged_calls: 1_000_000,
     fed_traces: 50_000,
-    ordered_states: 3000,
+    ordered_states: 5000,
     ordered_inputs: 100,
     random_inputs: 1500,
     long_input: 20_000_000,
@@ -147,7 +147,7 @@ fn noticed_by(model: &Model, seed: u64) -> Vec<&'static str> {
         ),
         (
             "random inputs",
-            traces::random_inputs(model, seed, 100, &mut tally),
+            traces::random_inputs(model, seed, 300, &mut tally),
         ),
         (
             "refusal orders",
