@@ -102,7 +102,7 @@ unfolding setupOf referOf referAll tornRecord outOfRange withDefaults hashOf fir
 bench = record {
   a = ((refl, refl), refl, refl, refl, refl, refl);
   b = ((refl, refl), refl, refl, refl, refl, refl, refl, refl, refl, refl, refl);
-  c = ((refl, refl), refl, refl);
+  c = ((refl, refl), refl, refl, refl, refl);
   d = ((refl, refl), refl, skips, empty);
   e = refl;
   f = ((refl, refl), refl, refl, refl, refl, refl);

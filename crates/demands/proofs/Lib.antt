@@ -5,5 +5,6 @@ pub mod Points
 pub mod Recency
 pub mod ReadBack
 pub mod Refusing
+pub mod Needed
 pub mod Bench
 pub mod Witnesses

@@ -1,8 +1,8 @@
--- Demand 1. An event has the order of the call that it stands for, so (a) and (b) are `Order`'s laws, and (c) is a case of the point's call. The
--- one exception: of trackers that agree, each call's order, its step and what it leaves are made of the same parts, so they agree again.
+-- Demand 1. An event has the order of the call that it stands for, so (a) and (b) are `Order`'s laws, and (c) is three cases of the point's
+-- call. The one exception: of trackers that agree, each call's order, its step and what it leaves are made of the same parts, so they agree again.
 -- Assumes nothing.
 use Prim.Native.Nat.{ℕ, _+_, _-_, _/_}
-use mathlib.Core.Path.{_≡_, refl, sym, ap, subst₂, _∙_}
+use mathlib.Core.Path.{_≡_, refl, sym, ap, subst, subst₂, _∙_}
 use mathlib.Core.Bool.{true, false, cond, not, _||_}
 use mathlib.Core.List.{List, [], _∷_}
 use lib.Dec.{eqb, ltb}
@@ -10,30 +10,37 @@ use lib.ListN.{length, length-append, length-drop}
 use borrow.Author.Tests.{eqb-true}
 use Rattle.rules.specs.declared.Settings.{Settings}
 use Rattle.rules.specs.declared.Record.{Record}
+use Rattle.rules.specs.declared.Shape.{Shape}
+use Rattle.rules.specs.declared.Refusal.{Refusal}
 use Rattle.rules.specs.declared.Refusal.the-variants as refusal
+use Rattle.rules.specs.declared.Pointed.the-variants as pointed
+use Rattle.rules.specs.declared.Plotted.the-variants as plotted
 use Rattle.rules.specs.declared.Event.{Event}
 use Rattle.rules.specs.declared.Event.the-variants.{Location, Span, Restart, Setup}
 use Rattle.rules.specs.Lists.{over}
-use Rattle.rules.specs.Settings.{Tables, withDefaults, outOfRange}
+use Rattle.rules.specs.Settings.{Histogram, Tables, withDefaults, outOfRange}
 use Rattle.rules.specs.Reference.{Reply, under, firstPlace, bucketFor, step}
-use Rattle.rules.specs.Answers.{refused, gives}
+use Rattle.rules.specs.Answers.{refused, gives, number}
 use Rattle.rules.specs.Order.{Judged, _when_, says, leaves}
 use Rattle.rules.specs.Events.{settingsOf, blockBytes}
 use Rattle.rules.specs.Layout.{Tracker, hashFor, profileOf, counted, stored, freshBuckets, freshTables, freshRecord, fresh}
 use Rattle.rules.specs.Conditions.{bucketsTooShort, tooShort, tornRecord, tornAt, tornFor, full, stale}
-use Rattle.rules.specs.Calls.{setupOrder, setupOf, restartOrder, restartOf, stepOf, referOrder, referOf, startedOver, goingOn, referAll, applyOf}
+use Rattle.rules.specs.Calls.{setupOrder, setupOf, restartOrder, restartOf, stepOf, referOrder, referOf, startedOver, goingOn, referAll}
+use Rattle.rules.specs.Calls.{pointOf, plotOf, applyOf}
+use Rattle.rules.specs.History.{Reference}
 use Rattle.rules.proofs.Tests.{cases, or-left, or-right}
 use Rattle.rules.proofs.Order.{not-both, either, says-given, says-refused, leaves-was, leaves-both, says-some}
-use Rattle.rules.proofs.Calls.{sample-stored, point-stale}
-use Rattle.demands.specs.Refusing.{Untouched, InOrder, NeverZero, StaleByName, Agree, Alike, AgreeAgain}
+use Rattle.rules.proofs.Answers.{pointed-injective, plotted-injective}
+use Rattle.rules.proofs.Bounds.{buckets-none-short}
+use Rattle.rules.proofs.Calls.{sample-stored, point-torn, point-short, point-stale, plot-is}
+use Rattle.rules.proofs.Calls.{plotted as plotted-as}
+use Rattle.demands.specs.Refusing.{Untouched, InOrder, NeverZero, applyOrder, ApplyInOrder, AnotherShape, RefusedAs, staleOr}
+use Rattle.demands.specs.Refusing.{StaleByName, StaleInARun}
+use Rattle.demands.specs.Refusing.{Agree, Alike, AgreeAgain}
+use Rattle.demands.specs.Runs.{Run}
+use Rattle.demands.proofs.Invariant.{invariant}
 
 -- ---- an event has the order of the call that it stands for
-
-abbrev applyOrder : Event → Tracker → List Judged
-applyOrder (Location x) s = referOrder x s
-applyOrder (Span offset bytes) s = cond (eqb bytes 0) [] (referOrder (offset / blockBytes) s)
-applyOrder Restart s = restartOrder (s .kept) (s .tables)
-applyOrder (Setup b) s = setupOrder (settingsOf b) (s .tables)
 
 abbrev applyAfter : Event → Tracker → Tracker
 applyAfter (Location x) s = stored (stepOf x s) s
@@ -89,17 +96,46 @@ in-order = record {
 pub never-zero : NeverZero
 never-zero A order a = says-some order a
 
+pub apply-in-order : ApplyInOrder
+apply-in-order e s = ap (λ o. o .result) (apply-is e s)
+
 -- ---- (c)
 
+module _ (kept : Record) (believed : Shape) (n : ℕ) (g : Histogram) where
+  differs : AnotherShape believed (kept .settings) → stale believed (kept .settings) ≡ true
+  differs d = cases (eqb (believed .buckets) (kept .settings .buckets))
+      (λ b. cases (eqb (believed .width) (kept .settings .width))
+      (λ w. absurd (d (eqb-true _ _ b) (eqb-true _ _ w)))
+      (λ w. or-right (not (eqb (believed .buckets) (kept .settings .buckets))) _ (ap not w)))
+      (λ b. or-left (not (eqb (believed .buckets) (kept .settings .buckets))) _ (ap not b))
+
+  pub stale-says : AnotherShape believed (kept .settings) → pointOf kept believed n g ≡ refused (number (staleOr kept g))
+  stale-says d = cases (tornRecord kept)
+      (λ e. point-torn kept believed n g e ∙ rw e)
+      (λ e. cases (bucketsTooShort (kept .settings) g)
+      (λ f. point-short kept believed n g e f ∙ rw (e, f))
+      (λ f. point-stale kept believed n g e f (differs d) ∙ rw (e, f)))
+
+  -- of the pair of doubles too
+  pub stale-plots : AnotherShape believed (kept .settings) → plotOf kept believed n g ≡ refused (number (staleOr kept g))
+  stale-plots d = sym (plot-is kept believed n g) ∙ ap plotted-as (stale-says d)
+
+-- a refusal by number is one by name
 pub stale-by-name : StaleByName
-stale-by-name kept believed n g e f d = point-stale kept believed n g e f differs
-  where
-    differs : stale believed (kept .settings) ≡ true
-    differs = cases (eqb (believed .buckets) (kept .settings .buckets))
-        (λ b. cases (eqb (believed .width) (kept .settings .width))
-        (λ w. absurd (d (eqb-true _ _ b) (eqb-true _ _ w)))
-        (λ w. or-right (not (eqb (believed .buckets) (kept .settings .buckets))) _ (ap not w)))
-        (λ b. or-left (not (eqb (believed .buckets) (kept .settings .buckets))) _ (ap not b))
+stale-by-name kept believed n g d = let why = staleOr kept g in record {
+  point = λ answer p. pointed-injective answer (pointed.Refused why) (p ∙ stale-says kept believed n g d);
+  plotted = λ answer p. plotted-injective answer (plotted.Refused why) (p ∙ stale-plots kept believed n g d);
+}
+
+-- nothing is torn and no table short in what a run left
+pub only-stale : {past : List Reference} {s : Tracker} → Run past s → staleOr (s .kept) (s .tables .histogram) ≡ refusal.Stale
+only-stale {s = s} run =
+    let v = invariant run in
+    rw (v .record-whole, buckets-none-short (s .kept .settings) (s .tables) (v .tables-long))
+
+pub stale-in-a-run : StaleInARun
+stale-in-a-run past s run believed n d = subst (λ why. RefusedAs why (s .kept) believed n (s .tables .histogram)) (only-stale run)
+    (stale-by-name (s .kept) believed n (s .tables .histogram) d)
 
 -- ---- the one exception
 

@@ -9,7 +9,6 @@ use Rattle.rules.specs.declared.Point.{Point}
 use Rattle.rules.specs.declared.Event.the-variants.{Restart}
 use Rattle.rules.specs.Settings.{Tables, withDefaults, hashOf, fullRate}
 use Rattle.rules.specs.Reference.{Reply, skipped, scaledDistance, countAt, thresholdAt}
-use Rattle.rules.specs.Curve.{hitsAt}
 use Rattle.rules.specs.Answers.{Result, refused, gives}
 use Rattle.rules.specs.Order.{Outcome}
 use Rattle.rules.specs.Events.{readOf}
@@ -73,7 +72,9 @@ pub record BenchTable : Type 0 where
       × (ran (kind0 2 16 1048576 4) (10 ∷ 5 ∷ 10 ∷ 7 ∷ []) .kept .threshold ≡ 10)
       × (printed caseB 0 ≡ 0 ∷ 896 ∷ 896 ∷ []) × (printed caseB 1 ≡ 1048576 ∷ 896 ∷ 896 ∷ []) × (printed caseB 2 ≡ 2097152 ∷ 480 ∷ 896 ∷ [])
       × (printed caseB 3 ≡ 3145728 ∷ 480 ∷ 896 ∷ []) × (printed caseB 4 ≡ 4194304 ∷ 480 ∷ 896 ∷ [])
-  pub c : accepted (kind0 1 16 0 0) (3 ∷ 16777219 ∷ []) × (caseC .kept .threshold ≡ 3) × (liveOf caseC ≡ [])
+  pub c : accepted (kind0 1 16 0 0) (3 ∷ 16777219 ∷ [])
+      × (hashOf (record { kind = 0 }) 3 ≡ 3) × (hashOf (record { kind = 0 }) 16777219 ≡ 3)
+      × (caseC .kept .threshold ≡ 3) × (liveOf caseC ≡ [])
   pub d : accepted (kind0 1 16 0 0) (0 ∷ 16777216 ∷ []) × (caseD .kept .threshold ≡ 0)
       -- every later accepted reference, any number of them, is Skipped, and the report is Empty
       × ((later : List ℕ) (x : ℕ) (r : Reply) → referOf x (referAll later caseD .left) .result ≡ gives r → r ≡ skipped)
@@ -82,7 +83,7 @@ pub record BenchTable : Type 0 where
   pub f : accepted (kind0 1 7 0 0) (5 ∷ 5 ∷ 4 ∷ 3 ∷ [])
       × (ran (kind0 1 7 0 0) (5 ∷ 5 ∷ 4 ∷ []) .kept .threshold ≡ 5) × (caseF .kept .threshold ≡ 4)
       × (countAt 0 (caseF .tables .histogram) ≡ 256) × (thresholdAt 0 (caseF .tables .histogram) ≡ 7)
-      × (hitsAt 4 1 (caseF .tables .histogram) ≡ 146)
+      × (pointAt caseF 1 ≡ gives (record { size = 1; hits = 146; misses = 496; total = 642 }))
   pub g : (pointAt caseA 4 ≡ gives (record { size = 4; hits = 768; misses = 768; total = 1536 })) × (pointAt caseA 5 ≡ refused 6)
   pub h : (t : Tables) → tooShort (withDefaults (kind0 8192 0 0 0)) t ≡ false
       → (setupOf (kind0 8192 0 0 0) t .result ≡ gives (freshRecord (withDefaults (kind0 8192 0 0 0))))

@@ -1,4 +1,5 @@
 pub mod Runs
 pub mod Statements
 pub mod Refusing
+pub mod Needed
 pub mod Bench

@@ -1,19 +1,30 @@
 -- Demand 1 over the definitions: who refuses, under which number, and that nothing is changed by it. Assumes nothing.
-use Prim.Native.Nat.{ℕ}
+use Prim.Native.Nat.{ℕ, _/_}
 use mathlib.Core.Path.{_≡_}
-use mathlib.Core.Bool.{false}
-use mathlib.Core.List.{List}
+use mathlib.Core.Bool.{cond}
+use mathlib.Core.List.{List, []}
+use lib.Dec.{eqb}
 use lib.ListN.{length}
 use Rattle.rules.specs.declared.Settings.{Settings}
 use Rattle.rules.specs.declared.Record.{Record}
 use Rattle.rules.specs.declared.Shape.{Shape}
+use Rattle.rules.specs.declared.Refusal.{Refusal}
+use Rattle.rules.specs.declared.Refusal.the-variants as refusal
+use Rattle.rules.specs.declared.Pointed.{Pointed}
+use Rattle.rules.specs.declared.Pointed.the-variants as pointed
+use Rattle.rules.specs.declared.Plotted.{Plotted}
+use Rattle.rules.specs.declared.Plotted.the-variants as plotted
 use Rattle.rules.specs.declared.Event.{Event}
+use Rattle.rules.specs.declared.Event.the-variants.{Location, Span, Restart, Setup}
 use Rattle.rules.specs.Settings.{Histogram}
-use Rattle.rules.specs.Answers.{refused, gives}
+use Rattle.rules.specs.Answers.{refused, gives, pointResult, plotResult}
 use Rattle.rules.specs.Order.{Judged, says, byOrder, NoneHolds, FirstAt, refusalAt}
+use Rattle.rules.specs.Events.{settingsOf, blockBytes}
 use Rattle.rules.specs.Layout.{Tracker, liveOf}
 use Rattle.rules.specs.Conditions.{bucketsTooShort, tornRecord}
-use Rattle.rules.specs.Calls.{setupOf, restartOf, referOf, pointOf, applyOf}
+use Rattle.rules.specs.Calls.{setupOrder, setupOf, restartOrder, restartOf, referOrder, referOf, pointOf, plotOf, applyOf}
+use Rattle.rules.specs.History.{Reference}
+use Rattle.demands.specs.Runs.{Run}
 
 -- ---- (a) "A refusal gives its number and leaves every table and buffer untouched.": a law of any order, and so of each call that is
 -- defined by one; an event stands for one of those
@@ -40,11 +51,39 @@ pub record InOrder : Type 1 where
 abbrev pub NeverZero : Type 1
 NeverZero = (A : Type 0) (order : List Judged) (a : A) → says order a ≡ refused 0 → ⊥
 
--- ---- (c) "A point asked for under another curve's shape is refused by name.": 5, whatever the point number
+-- an event has the order of the call that it stands for; a span of length 0 stands for none
+abbrev pub applyOrder : Event → Tracker → List Judged
+applyOrder (Location x) s = referOrder x s
+applyOrder (Span offset bytes) s = cond (eqb bytes 0) [] (referOrder (offset / blockBytes) s)
+applyOrder Restart s = restartOrder (s .kept) (s .tables)
+applyOrder (Setup b) s = setupOrder (settingsOf b) (s .tables)
+
+abbrev pub ApplyInOrder : Type 0
+ApplyInOrder = (e : Event) (s : Tracker) → applyOf e s .result ≡ says (applyOrder e s) tt
+
+-- ---- (c) "A point asked for under another curve's shape is refused by name.": Stale, whatever the point number, in every answer that the
+-- promises of `point` and `plot_point` allow
+
+-- the believed B or W differs
+abbrev pub AnotherShape : Shape → Settings → Type 0
+AnotherShape believed s = believed .buckets ≡ s .buckets → believed .width ≡ s .width → ⊥
+
+pub record RefusedAs (why : Refusal) (kept : Record) (believed : Shape) (n : ℕ) (g : Histogram) : Type 0 where
+  pub point : (answer : Pointed) → pointResult answer ≡ pointOf kept believed n g → answer ≡ pointed.Refused why
+  pub plotted : (answer : Plotted) → plotResult answer ≡ plotOf kept believed n g → answer ≡ plotted.Refused why
+
+-- of any record and tables: only a torn record and a short table are refused before
+abbrev pub staleOr : Record → Histogram → Refusal
+staleOr kept g = cond (tornRecord kept) refusal.Torn (cond (bucketsTooShort (kept .settings) g) refusal.Tables refusal.Stale)
 
 abbrev pub StaleByName : Type 0
-StaleByName = (kept : Record) (believed : Shape) (n : ℕ) (g : Histogram) → tornRecord kept ≡ false → bucketsTooShort (kept .settings) g ≡ false
-    → (believed .buckets ≡ kept .settings .buckets → believed .width ≡ kept .settings .width → ⊥) → pointOf kept believed n g ≡ refused 5
+StaleByName = (kept : Record) (believed : Shape) (n : ℕ) (g : Histogram) → AnotherShape believed (kept .settings)
+    → RefusedAs (staleOr kept g) kept believed n g
+
+-- of what a run left: always
+abbrev pub StaleInARun : Type 0
+StaleInARun = (past : List Reference) (s : Tracker) → Run past s → (believed : Shape) (n : ℕ) → AnotherShape believed (s .kept .settings)
+    → RefusedAs refusal.Stale (s .kept) believed n (s .tables .histogram)
 
 -- ---- document 01's one exception: the places from the live number on
 

@@ -17,7 +17,7 @@ use Rattle.rules.specs.declared.Event.the-variants as event
 use Rattle.rules.specs.Lists.{over}
 use Rattle.rules.specs.Settings.{Histogram, Tables, withDefaults}
 use Rattle.rules.specs.Reference.{Reply}
-use Rattle.rules.specs.Answers.{Result, refused, gives, numberOf, Got}
+use Rattle.rules.specs.Answers.{Result, refused, gives, number, numberOf, Got}
 use Rattle.rules.specs.Order.{Outcome, outcome, Judged, says, NoneHolds}
 use Rattle.rules.specs.Events.{eventBytes, eventLength, readOf, readOrder, writeOf, writeOrder}
 use Rattle.rules.specs.Layout.{Tracker, freshRecord, freshTables, fresh}
@@ -26,10 +26,13 @@ use Rattle.rules.specs.Calls.{plotOf}
 use Rattle.rules.specs.History.{Reference}
 use Rattle.rules.proofs.Tests.{cases, clash}
 use Rattle.rules.proofs.Order.{not-both, says-given, says-accepted, says-some, leaves-was}
-use Rattle.rules.proofs.Calls.{setup-accept, setup-begins, restart-either, refer-either, refer-accept, plotted, plot-is}
+use Rattle.rules.proofs.Calls.{setup-accept, setup-begins, restart-either, refer-either, refer-accept}
 use Rattle.demands.specs.Runs.{Run, setup, restart, refer}
 use Rattle.demands.specs.Statements.{historyReply}
-use Rattle.demands.proofs.Refusing.{apply-some, stale-by-name}
+use Rattle.demands.specs.Refusing.{staleOr}
+use Rattle.demands.specs.Needed.{neededBy, SameBeyond, settingsUnder, mostNeeded}
+use Rattle.demands.proofs.Refusing.{apply-some, stale-says, stale-plots, only-stale}
+use Rattle.demands.proofs.Needed.{same-all, started-tables, only-needed}
 use Rattle.demands.proofs.Tracking.{threshold, live-list, numbers, whole-answers}
 use Rattle.demands.proofs.Alone.{nothing-else}
 use Rattle.demands.proofs.Points.{full-rate}
@@ -44,7 +47,7 @@ use Rattle.words.proofs.Laws.{put-length, record-of-put}
 use Rattle.driver.specs.Calls.{Held, held, trackerIn, returning, keeping, onHeld, onWords, setupInOrder, setupHeld, setupIn}
 use Rattle.driver.specs.Calls.{restartIn, referIn, applyGot, applyIn, fedIn, feedIn, writeIn}
 use Rattle.driver.specs.Driven.{Accepted, AcceptedOn, ZeroWhen, ZeroIsAccepted, LeftAsItWas, FedAlone, TooFew, SamePast}
-use Rattle.driver.specs.Driven.{PastTheRecord, StaleByNumber}
+use Rattle.driver.specs.Driven.{PastTheRecord, OnlyNeededIn, StaleByNumber, StaleIn}
 use Rattle.driver.specs.Driven.{HoldsRun, FedRun, CallsAreARun, ThresholdIn, LiveListIn, NothingElseIn, ReferencesIn, FullRateIn}
 use Rattle.driver.proofs.Laws.{answer-number, stored-same, by-words, setup-few, got-is, fed-by}
 
@@ -196,6 +199,11 @@ words-zero w s some-number few enough = cases (fewWords w)
     two-not-zero e = omega arith
 
 module _ {A : Type 0} (call : Tracker → Outcome A Tracker) (h : Held) where
+  held-tables : (P : Tables → Type 0) → P (h .tables) → P (call (trackerIn h) .left .tables) → P (onHeld call h .left .tables)
+  held-tables P was is = cases (fewWords (h .words))
+      (λ e. subst (λ z. P (z .left .tables)) (sym (by-words call h true e)) was)
+      (λ e. subst (λ z. P (z .left .tables)) (sym (by-words call h false e)) is)
+
   held-past : SamePast h (onHeld call h .left)
   held-past = cases (fewWords (h .words))
       (λ e. subst (λ z. SamePast h (z .left)) (sym (by-words call h true e)) (refl, refl))
@@ -289,6 +297,12 @@ module _ (given : Settings) (h : Held) where
       (past-put (freshRecord (withDefaults given)) (h .words)))
       (λ n e. subst (SamePast h) (sym (leaves-was {A = Unit {0}} order tt h after n e)) (refl, refl))
 
+  setup-beyond : SameBeyond (neededBy (withDefaults given)) (h .tables) (setupIn given h .left .tables)
+  setup-beyond = let Same = SameBeyond (neededBy (withDefaults given)) (h .tables) in result-cases said
+      (λ a e. let p = says-accepted {A = Unit {0}} order tt e in
+      subst (λ z. Same (z .tables)) (sym (setup-left p)) (subst (λ o. Same (o .left)) (setup-given p) (only-needed .by-setup given (h .tables))))
+      (λ n e. subst (λ z. Same (z .tables)) (sym (leaves-was {A = Unit {0}} order tt h after n e)) (same-all _ (h .tables)))
+
   setup-run : setupIn given h .value ≡ 0 → HoldsRun [] (setupIn given h .left)
   setup-run z =
       let p = passed z in
@@ -334,6 +348,8 @@ module _ (bytes : List ℕ) (h : Held) where
         are = subst (λ n. Events (take n bytes) []) (sym (ap (λ o. o .value .taken) (fed-by bytes h true e))) none;
         continued = λ past holds. subst (HoldsRun past) (sym left) holds;
         from-fresh-start = λ b. clash b refl;
+        only-needed = subst (λ z. SameBeyond (mostNeeded [] (recordOf (h .words) .settings)) (h .tables) (z .tables)) (sym left)
+            (same-all _ (h .tables));
       })
       (λ e.
       let r = ran bytes (trackerIn h) in
@@ -342,6 +358,9 @@ module _ (bytes : List ℕ) (h : Held) where
         are = subst (λ n. Events (take n bytes) (r .events)) (sym (taken-is e)) (r .are);
         continued = λ past holds. fed-held (pastOf (r .events) past) e (r .continued past (holds .run));
         from-fresh-start = λ b past. fed-held (pastOf (r .events) past) e (r .from-fresh-start b past);
+        only-needed =
+            subst (λ z. SameBeyond (mostNeeded (r .events) (recordOf (h .words) .settings)) (h .tables) (z .left .tables))
+            (sym (fed-by bytes h false e)) (r .only-needed);
       })
 
 pub fed-alone : FedAlone
@@ -425,12 +444,33 @@ past-the-record = record {
   by-feed = feed-past;
 }
 
+pub only-needed-in : OnlyNeededIn
+only-needed-in = record {
+  by-setup = setup-beyond;
+  by-restart = λ h. let kept = recordOf (h .words) in let o = restartOf kept (h .tables) in
+      held-tables restartOver h (SameBeyond (neededBy (kept .settings)) (h .tables)) (same-all _ (h .tables))
+      (subst (SameBeyond (neededBy (kept .settings)) (h .tables)) (sym (started-tables kept (o .result) (o .left))) (only-needed .by-restart kept (h .tables)));
+  by-refer = λ x h. held-tables (referOf x) h (SameBeyond (neededBy (recordOf (h .words) .settings)) (h .tables)) (same-all _ (h .tables))
+      (only-needed .by-refer x (trackerIn h));
+  by-apply = λ bytes g h e. let set = settingsUnder (g .event) (recordOf (h .words) .settings) in
+      held-tables (applyGot (readOf bytes)) h (SameBeyond (neededBy set) (h .tables)) (same-all _ (h .tables))
+      (subst (λ r. SameBeyond (neededBy set) (h .tables) (applyGot r (trackerIn h) .left .tables)) (sym e) (only-needed .by-apply (g .event) (trackerIn h)));
+}
+
 pub stale-by-number : StaleByNumber
-stale-by-number w believed k g enough untorn long differs =
-    let stale = stale-by-name (recordOf w) believed k g untorn long differs in (
-      ap pointWords (enough-words w (pointOf (recordOf w) believed k g) enough ∙ stale),
-      ap plotWords (enough-words w (plotOf (recordOf w) believed k g) enough ∙ sym (plot-is (recordOf w) believed k g) ∙ ap plotted stale),
-    )
+stale-by-number w believed k g d = (
+  ap (λ r. pointWords (onWords w r)) (stale-says (recordOf w) believed k g d),
+  ap (λ r. plotWords (onWords w r)) (stale-plots (recordOf w) believed k g d),
+)
+
+-- the words are enough, and nothing is torn or short
+pub stale-in : StaleIn
+stale-in past h holds believed k d =
+    let by = stale-by-number (h .words) believed k (h .tables .histogram) d in
+    (by .0 ∙ ap pointWords (five Point), by .1 ∙ ap plotWords (five PlotPoint))
+  where
+    five : (A : Type 0) → _≡_ {A = Result A} (onWords (h .words) (refused (number (staleOr (recordOf (h .words)) (h .tables .histogram))))) (refused 5)
+    five A = enough-words (h .words) _ (holds .enough) ∙ ap (λ why. refused (number why)) (only-stale (holds .run))
 
 -- ---- calls are a run
 
@@ -446,16 +486,16 @@ module _ (past : List Reference) (x : Reference) (h : Held) (holds : HoldsRun pa
   abbrev s : Tracker
   s = trackerIn h
 
-  number : numberOf (onHeld (referOf x) h .result) ≡ 0
-  number = sym (answer-number (onHeld (referOf x) h .result)) ∙ z
+  is-zero : numberOf (onHeld (referOf x) h .result) ≡ 0
+  is-zero = sym (answer-number (onHeld (referOf x) h .result)) ∙ z
 
   answered : {C : Type 0} → ((r : Reply) → referOf x s ≡ outcome (gives r) (referOf x s .left) → C) → C
   answered f = result-cases (referOf x s .result)
       (λ r e. f r (λ i. outcome (e i) (referOf x s .left)))
-      (λ n e. absurd (subst Accepted e (held-zero (referOf x) h (refer-sound x s) .0 number .1)))
+      (λ n e. absurd (subst Accepted e (held-zero (referOf x) h (refer-sound x s) .0 is-zero .1)))
 
   refer-run : HoldsRun (x ∷ past) (referIn x h .left)
-  refer-run = answered (λ r e. held-run (referOf x) h (refer-sound x s) (x ∷ past) number (refer (holds .run) e))
+  refer-run = answered (λ r e. held-run (referOf x) h (refer-sound x s) (x ∷ past) is-zero (refer (holds .run) e))
 
   refer-answer : referIn x h .value ≡ answerWords (gives (historyReply s past x))
   refer-answer = answered (λ r e.

@@ -8,21 +8,22 @@ use Rattle.rules.specs.declared.Settings.{Settings}
 use Rattle.rules.specs.declared.Shape.{Shape}
 use Rattle.rules.specs.declared.Event.{Event}
 use Rattle.rules.specs.Lists.{keep}
-use Rattle.rules.specs.Settings.{Histogram, fullRate, oneReference}
-use Rattle.rules.specs.Answers.{Result, refused, gives, Got}
+use Rattle.rules.specs.Settings.{withDefaults, Histogram, fullRate, oneReference}
+use Rattle.rules.specs.Answers.{Result, refused, gives, number, Got}
 use Rattle.rules.specs.Events.{readOf, writeOf}
 use Rattle.rules.specs.Layout.{hashFor}
-use Rattle.rules.specs.Conditions.{bucketsTooShort, tornRecord}
 use Rattle.rules.specs.Calls.{setupOf, restartOf, referOf, pointOf, plotOf}
 use Rattle.rules.specs.History.{recency, Largest, Reference, locations}
 use Rattle.rules.specs.Cache.{hits}
 use Rattle.demands.specs.Runs.{Run}
+use Rattle.demands.specs.Refusing.{AnotherShape, staleOr}
+use Rattle.demands.specs.Needed.{neededBy, SameBeyond, settingsUnder, mostNeeded}
 use Rattle.demands.specs.Statements.{historyReply, inForce, sizeAt, Alone}
 use Rattle.feed.specs.Feed.{whole, feedOf}
 use Rattle.feed.specs.Past.{pastAfter, pastOf, freshStart, anyFreshStart, Events}
 use Rattle.words.specs.declared.PointWords.{PointWords}
 use Rattle.words.specs.Words.{fewWords, recordOf, returned, answerWords, pointWords, plotWords, fedWords}
-use Rattle.driver.specs.Calls.{Held, trackerIn, applyGot, fewForSetup}
+use Rattle.driver.specs.Calls.{Held, trackerIn, onWords, applyGot, fewForSetup}
 use Rattle.driver.specs.Calls.{setupIn, restartIn, referIn, pointIn, plotIn, applyIn, feedIn, readIn, writeIn}
 
 -- ---- demand 1: 0 exactly when the call is accepted
@@ -90,13 +91,22 @@ pub record PastTheRecord : Type 0 where
   pub by-apply : (bytes : List ℕ) (h : Held) → SamePast h (applyIn bytes h .left)
   pub by-feed : (bytes : List ℕ) (h : Held) → SamePast h (feedIn bytes h .left)
 
+-- ---- demand 1: entries of the tables past the needed ones are as they were; feeding is below, and an event that cannot be read changes nothing
+
+pub record OnlyNeededIn : Type 0 where
+  pub by-setup : (given : Settings) (h : Held) → SameBeyond (neededBy (withDefaults given)) (h .tables) (setupIn given h .left .tables)
+  pub by-restart : (h : Held) → SameBeyond (neededBy (recordOf (h .words) .settings)) (h .tables) (restartIn h .left .tables)
+  pub by-refer : (x : ℕ) (h : Held) → SameBeyond (neededBy (recordOf (h .words) .settings)) (h .tables) (referIn x h .left .tables)
+  pub by-apply : (bytes : List ℕ) (g : Got) (h : Held) → readOf bytes ≡ gives g
+      → SameBeyond (neededBy (settingsUnder (g .event) (recordOf (h .words) .settings))) (h .tables) (applyIn bytes h .left .tables)
+
 -- ---- demand 1: a point under another shape is refused by its number, whatever the point
 
+-- 5; only too few words, a torn record and a short table are refused before
 abbrev pub StaleByNumber : Type 0
-StaleByNumber = (w : List ℕ) (believed : Shape) (k : ℕ) (g : Histogram) → fewWords w ≡ false → tornRecord (recordOf w) ≡ false
-    → bucketsTooShort (recordOf w .settings) g ≡ false
-    → (believed .buckets ≡ recordOf w .settings .buckets → believed .width ≡ recordOf w .settings .width → ⊥)
-    → (pointIn w believed k g ≡ pointWords (refused 5)) × (plotIn w believed k g ≡ plotWords (refused 5))
+StaleByNumber = (w : List ℕ) (believed : Shape) (k : ℕ) (g : Histogram) → AnotherShape believed (recordOf w .settings)
+    → let why = number (staleOr (recordOf w) g) in
+    (pointIn w believed k g ≡ pointWords (onWords w (refused why))) × (plotIn w believed k g ≡ plotWords (onWords w (refused why)))
 
 -- ---- calls are a run: those that return 0 begin and continue one
 
@@ -105,12 +115,14 @@ pub record HoldsRun (past : List Reference) (h : Held) : Type 0 where
   pub enough : fewWords (h .words) ≡ false
   pub run : Run past (trackerIn h)
 
--- what feeding left: with the events that it took it continues a run, or begins one if one of them was a fresh start
+-- what feeding left: with the events that it took it continues a run, or begins one if one of them was a fresh start; entries past the most
+-- that any settings needed under which one of them was taken are as they were
 pub record FedRun (bytes : List ℕ) (h : Held) : Type 0 where
   pub events : List Event
   pub are : Events (take (feedIn bytes h .value .taken) bytes) events
   pub continued : (past : List Reference) → HoldsRun past h → HoldsRun (pastOf events past) (feedIn bytes h .left)
   pub from-fresh-start : anyFreshStart events ≡ true → (past : List Reference) → HoldsRun (pastOf events past) (feedIn bytes h .left)
+  pub only-needed : SameBeyond (mostNeeded events (recordOf (h .words) .settings)) (h .tables) (feedIn bytes h .left .tables)
 
 pub record CallsAreARun : Type 0 where
   pub by-setup : (given : Settings) (h : Held) → setupIn given h .value ≡ 0 → HoldsRun [] (setupIn given h .left)
@@ -122,6 +134,12 @@ pub record CallsAreARun : Type 0 where
   pub by-fresh-start : (bytes : List ℕ) (g : Got) (h : Held) → readOf bytes ≡ gives g → freshStart (g .event) ≡ true
       → applyIn bytes h .value .refusal ≡ 0 → HoldsRun [] (applyIn bytes h .left)
   pub by-feed : (bytes : List ℕ) (h : Held) → FedRun bytes h
+
+-- of what such calls left, a point under another shape is always refused 5
+abbrev pub StaleIn : Type 0
+StaleIn = (past : List Reference) (h : Held) → HoldsRun past h → (believed : Shape) (k : ℕ) → AnotherShape believed (recordOf (h .words) .settings)
+    → (pointIn (h .words) believed k (h .tables .histogram) ≡ pointWords (refused 5))
+    × (plotIn (h .words) believed k (h .tables .histogram) ≡ plotWords (refused 5))
 
 -- ---- demands 2 and 3, of the words that such calls left
 

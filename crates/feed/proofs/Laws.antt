@@ -21,6 +21,7 @@ use Rattle.rules.proofs.Tests.{cases, clash}
 use Rattle.rules.proofs.Events.{taken}
 use Rattle.rules.proofs.Calls.{refer-accept, refer-either, setup-either, restart-either}
 use Rattle.demands.specs.Runs.{Run, setup, restart, refer}
+use Rattle.demands.specs.Needed.{settingsUnder}
 use Rattle.feed.specs.Feed.{whole, inside, Feeding, stopped, further, afterEvent, afterReading, firstThen, feedMost, feedOf}
 use Rattle.feed.specs.Past.{pastAfter, freshStart}
 
@@ -29,33 +30,44 @@ use Rattle.feed.specs.Past.{pastAfter, freshStart}
 abbrev pub taking : Tracker → Outcome (Unit {0}) Tracker
 taking s = record { result = gives tt; left = s }
 
--- an event that was taken continues any run, and a fresh start begins one
+-- an event that was taken continues any run, and a fresh start begins one; its settings are in force then
 pub record Took (e : Event) (s left : Tracker) : Type 0 where
   pub is : applyOf e s ≡ taking left
   pub runs : (past : List ℕ) → Run past s → Run (pastAfter e past) left
   pub begins : freshStart e ≡ true → (past : List ℕ) → Run (pastAfter e past) left
+  pub under : left .kept .settings ≡ settingsUnder e (s .kept .settings)
 
 module _ {C : Type 0} (s : Tracker) where
   module _ (e : Event) (f : (left : Tracker) → Took e s left → C) (g : (n : ℕ) → applyOf e s ≡ outcome (refused n) s → C) where
-    no-reference : applyOf e s ≡ taking s → ((past : List ℕ) → pastAfter e past ≡ past) → freshStart e ≡ false → C
-    no-reference is after not = f s (record { is = is; runs = λ past r. rw after r; begins = λ b. clash b not })
+    module _ (not : freshStart e ≡ false) (same : s .kept .settings ≡ settingsUnder e (s .kept .settings)) where
+      no-reference : applyOf e s ≡ taking s → ((past : List ℕ) → pastAfter e past ≡ past) → C
+      no-reference is after = f s (record { is = is; runs = λ past r. rw after r; begins = λ b. clash b not; under = same })
 
-    one-reference : (x : ℕ) → applyOf e s ≡ referAll (x ∷ []) s → ((past : List ℕ) → pastAfter e past ≡ x ∷ past) → freshStart e ≡ false → C
-    unfolding referAll
-    one-reference x is after not = refer-either x s
-        (λ a. f (stored (stepOf x s) s)
-        (record { is = is ∙ rw (refer-accept x s a); runs = λ past r. rw after (refer r (refer-accept x s a)); begins = λ b. clash b not }))
-        (λ n q. g n (is ∙ rw q))
+      one-reference : (x : ℕ) → applyOf e s ≡ referAll (x ∷ []) s → ((past : List ℕ) → pastAfter e past ≡ x ∷ past) → C
+      unfolding referAll
+      one-reference x is after = refer-either x s
+          (λ a. f (stored (stepOf x s) s) (record {
+            is = is ∙ rw (refer-accept x s a);
+            runs = λ past r. rw after (refer r (refer-accept x s a));
+            begins = λ b. clash b not;
+            under = same;
+          }))
+          (λ n q. g n (is ∙ rw q))
 
   pub apply-either : (e : Event) → ((left : Tracker) → Took e s left → C) → ((n : ℕ) → applyOf e s ≡ outcome (refused n) s → C) → C
   unfolding applyOf referAll
-  apply-either (Location x) f g = one-reference (Location x) f g x refl (λ past. refl) refl
+  apply-either (Location x) f g = one-reference (Location x) f g refl refl x refl (λ past. refl)
   apply-either (Span offset n) f g = cases (eqb n 0)
-      (λ z. no-reference (Span offset n) f g (rw z) (λ past. rw z) refl)
-      (λ z. one-reference (Span offset n) f g (offset / blockBytes) (rw z) (λ past. rw z) refl)
+      (λ z. no-reference (Span offset n) f g refl refl (rw z) (λ past. rw z))
+      (λ z. one-reference (Span offset n) f g refl refl (offset / blockBytes) (rw z) (λ past. rw z))
   apply-either Restart f g = restart-either (s .kept) (s .tables)
       (λ b. f (fresh (s .kept .settings) (s .tables))
-      (record { is = rw (b .is); runs = λ past r. restart (s .kept) (s .tables) (b .is); begins = λ t past. restart (s .kept) (s .tables) (b .is) }))
+      (record {
+        is = rw (b .is);
+        runs = λ past r. restart (s .kept) (s .tables) (b .is);
+        begins = λ t past. restart (s .kept) (s .tables) (b .is);
+        under = refl;
+      }))
       (λ n q. g n (rw q))
   apply-either (Setup b) f g = setup-either (settingsOf b) (s .tables)
       (λ w. f (fresh (withDefaults (settingsOf b)) (s .tables))
@@ -63,6 +75,7 @@ module _ {C : Type 0} (s : Tracker) where
         is = rw (w .is);
         runs = λ past r. setup (settingsOf b) (s .tables) (w .is);
         begins = λ t past. setup (settingsOf b) (s .tables) (w .is);
+        under = refl;
       }))
       (λ n q. g n (rw q))
 

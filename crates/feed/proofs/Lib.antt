@@ -1,5 +1,6 @@
 pub mod Laws
 pub mod Pieces
+pub mod Refused
 pub mod Runs
 pub mod Loop
 pub mod Unique

@@ -1,2 +1,3 @@
 pub mod Feed
 pub mod Past
+pub mod Refused

@@ -11,6 +11,7 @@ use Rattle.rules.specs.Events.{readOf, referencesOf}
 use Rattle.rules.specs.Layout.{Tracker}
 use Rattle.rules.specs.History.{Reference}
 use Rattle.demands.specs.Runs.{Run}
+use Rattle.demands.specs.Needed.{SameBeyond, mostNeeded}
 use Rattle.feed.specs.Feed.{Feeding}
 
 -- references, given oldest first, put in front of a past that is newest first
@@ -48,9 +49,10 @@ pub data Events : List ℕ → List Event → Type 0 where
   one : {bytes : List ℕ} {g : Got} {es : List Event} → readOf bytes ≡ gives g → Events (drop (g .taken) bytes) es → Events bytes (g .event ∷ es)
 
 -- what feeding s left: with the events that were taken it continues any run that left s; and if one of them was a fresh start, it is
--- what a run left, whatever s was
+-- what a run left, whatever s was; entries past the most that any settings needed under which an event was taken are as they were
 pub record Ran (bytes : List ℕ) (s : Tracker) (f : Feeding) : Type 0 where
   pub events : List Event
   pub are : Events (take (f .taken) bytes) events
   pub continued : (past : List Reference) → Run past s → Run (pastOf events past) (f .left)
   pub from-fresh-start : anyFreshStart events ≡ true → (past : List Reference) → Run (pastOf events past) (f .left)
+  pub only-needed : SameBeyond (mostNeeded events (s .kept .settings)) (s .tables) (f .left .tables)

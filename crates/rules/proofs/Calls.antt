@@ -4,6 +4,7 @@ use Prim.Native.Nat.{ℕ, _+_, _≤_}
 use mathlib.Core.Path.{_≡_, refl, ap}
 use mathlib.Core.Bool.{true, false}
 use mathlib.Core.List.{List, [], _∷_}
+use mathlib.Core.Option.{Option, some, none}
 use native.Mathlib.Omega.{arith}
 use lib.ListN.{length, length-take}
 use lib.Dec.{ltb, eqb}
@@ -14,9 +15,9 @@ use Rattle.rules.specs.declared.Record.{Record}
 use Rattle.rules.specs.declared.Shape.{Shape}
 use Rattle.rules.specs.declared.Point.{Point}
 use Rattle.rules.specs.declared.PlotPoint.{PlotPoint}
-use Rattle.rules.specs.Lists.{has}
+use Rattle.rules.specs.Lists.{has, upto}
 use Rattle.rules.specs.Settings.{withDefaults, outOfRange, Histogram, Tables, needed, mostReferences}
-use Rattle.rules.specs.Reference.{Sample, Profile, under, lowered, withinLimit, Reply, skipped, first, again, Stepped, step}
+use Rattle.rules.specs.Reference.{Sample, Profile, under, lowered, recordIn, bucketFor, withinLimit, Reply, skipped, first, again, Stepped, step}
 use Rattle.rules.specs.Curve.{totalOf, curvePoint, plotPoint}
 use Rattle.rules.specs.Answers.{refused, gives, Result}
 use Rattle.rules.specs.Order.{FirstAt, refusalAt, outcome, Outcome, says, Judged}
@@ -231,14 +232,15 @@ step-live hash limit f x s h = cases (under hash (s .threshold) x)
     (λ m. rw (step-first hash limit f x s e m) (within-limit-length hash limit (s .threshold) (x ∷ s .live) _ (omega arith))))
     (λ e. rw (step-skipped hash limit f x s e) h)
 
-step-long : (hash : ℕ → ℕ) (limit : ℕ) (f : Profile) (x : ℕ) (s : Sample) (n : ℕ) → Long n (s .histogram)
-    → Long n (step hash limit f x s .left .histogram)
-step-long hash limit f x s n l = cases (under hash (s .threshold) x)
+-- one reference leaves the buckets as they were, or records in one of them
+pub step-buckets : (P : Histogram → Type 0) (hash : ℕ → ℕ) (limit : ℕ) (f : Profile) (x : ℕ) (s : Sample) → P (s .histogram)
+    → ((place : Option ℕ) → P (recordIn (s .threshold) (bucketFor f (s .threshold) place) (s .histogram)))
+    → P (step hash limit f x s .left .histogram)
+step-buckets P hash limit f x s same one = cases (under hash (s .threshold) x)
     (λ e. cases (has x (s .live))
-    (λ m. rw (step-again hash limit f x s e m) (long-record (s .threshold) _ (s .histogram) n l))
-    (λ m. rw (step-first hash limit f x s e m, within-limit-histogram hash limit (s .threshold) (x ∷ s .live))
-    (long-record (s .threshold) _ (s .histogram) n l)))
-    (λ e. rw (step-skipped hash limit f x s e) l)
+    (λ m. rw (step-again hash limit f x s e m) (one (some (length (upto x (s .live))))))
+    (λ m. rw (step-first hash limit f x s e m, within-limit-histogram hash limit (s .threshold) (x ∷ s .live)) (one none)))
+    (λ e. rw (step-skipped hash limit f x s e) same)
 
 counted-references : (r : Reply) (n : Numbers) → counted r n .references ≡ n .references + 1
 counted-references skipped n = refl
@@ -291,6 +293,6 @@ module _ (x : ℕ) (s : Tracker) (a : Accepted x s) where
         rw (over-length (stepOf x s .left .live) (s .tables .locations) (omega (arith, live-left, tables-bounds .locations-long)))
         (tables-bounds .locations-long);
     buckets =
-        step-long (hashFor (kept .settings)) (kept .settings .limit) (profileOf (kept .settings)) x (sampleOf s) (needed (kept .settings .buckets))
-        (tables-bounds .buckets);
+        step-buckets (Long (needed (kept .settings .buckets))) (hashFor (kept .settings)) (kept .settings .limit) (profileOf (kept .settings)) x
+        (sampleOf s) (tables-bounds .buckets) (λ place. long-record (kept .threshold) _ (s .tables .histogram) _ (tables-bounds .buckets));
   })

@@ -103,6 +103,10 @@ read-short [] is = omega arith
 read-short (x ∷ s) is = kind-refused x (x ∷ s) (sym (kind-first x s) ∙ is) (λ w. w .1) (λ z q. absurd (omega arith))
 
 -- 8
+pub read-eight : (s : List ℕ) {m : ℕ} → (m ≡ 7 → ⊥) → readOf s ≡ refused m → m ≡ 8
+read-eight [] other is = absurd (other (cc (read-empty [] refl)))
+read-eight (x ∷ s) other is = kind-refused x (x ∷ s) (sym (kind-first x s) ∙ is) (λ w. absurd (other (w .0))) (λ z q. z)
+
 pub read-refused : (s more : List ℕ) {m : ℕ} → (m ≡ 7 → ⊥) → readOf s ≡ refused m → readOf (s ++ more) ≡ refused m
 read-refused [] more other is = absurd (other (cc (read-empty [] refl)))
 read-refused (x ∷ s) more other is = kind-refused x (x ∷ s) (sym (kind-first x s) ∙ is)

@@ -1,13 +1,13 @@
 -- A list written over the front of a table, by induction on the two lists, and the lent tables one by one. Assumes nothing.
-use Prim.Native.Nat.{ℕ, zero, suc, _+_, _≤_, _<_, min}
-use mathlib.Core.Path.{_≡_, refl, sym, ap, _∙_}
+use Prim.Native.Nat.{ℕ, zero, suc, _+_, _-_, _≤_, _<_, min}
+use mathlib.Core.Path.{_≡_, refl, sym, ap, subst, _∙_}
 use mathlib.Core.Logic.{⊎-elim}
 use mathlib.Core.List.{List, [], _∷_, _++_}
 use native.Mathlib.Nat.{not-suc-le-zero, le-of-suc-le-suc, eq-or-lt-of-le}
 use native.Mathlib.Omega.{arith}
 use lib.ListN.{length, getD, take, drop, set, replicate, length-append, length-drop}
 use lib.ListN.{length-set, length-replicate, replicate-append-replicate, take-append-drop}
-use lib.Seq.{take-all, length-take-le, take-at}
+use lib.Seq.{take-all, length-take-le, take-at, drop-append-add, drop-drop}
 use Rattle.rules.specs.Lists.{over}
 use Rattle.rules.specs.Settings.{Tables}
 
@@ -28,6 +28,13 @@ over-length new old h = rw (length-append, length-drop) (omega arith)
 -- what stands at the front again
 pub over-front : (new old : List ℕ) → take (length new) (over new old) ≡ new
 over-front new old = take-at new (drop (length new) old) (length new) refl
+
+-- what stands behind it is as it was
+pub over-behind : (new old : List ℕ) (n : ℕ) → length new ≤ n → drop n (over new old) ≡ drop n old
+over-behind new old n h =
+    let k = n - length new in
+    let sum : length new + k ≡ n = omega arith in
+    subst (λ m. drop m (over new old) ≡ drop m old) sum (drop-append-add new (drop (length new) old) k ∙ drop-drop k (length new) old)
 
 -- what stands at the front already
 pub over-same : (n : ℕ) (old : List ℕ) → n ≤ length old → over (take n old) old ≡ old
