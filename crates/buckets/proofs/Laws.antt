@@ -3,10 +3,11 @@
 use Prim.Native.Nat.{ℕ, zero, suc, _+_, _*_, _≤_, _<_, min}
 use mathlib.Core.Path.{_≡_, refl, subst}
 use mathlib.Core.Logic.{⊎-elim}
-use mathlib.Core.Bool.{true, false, cond}
+use mathlib.Core.Bool.{true, false, cond, _||_}
 use native.Mathlib.Nat.{eq-or-lt-of-le, le-of-suc-le-suc}
 use native.Mathlib.Numerals.{add-one}
 use native.Mathlib.Omega.{arith}
+use lib.Dec.{ltb}
 use lib.ListN.{length, length-set}
 use borrow.Author.Tests.{ltb-true, le-ltb, lt-ltb, lt-leb}
 use Rattle.rules.specs.Settings.{Histogram, needed, oneReference}
@@ -70,18 +71,22 @@ module _ (references t : ℕ) (g : Histogram) where
 
   -- ---- the report
 
-  module _ (n point : ℕ) (h : n ≤ length (g .counts)) (k : n ≤ length (g .thresholds)) where
+  module _ (n point : ℕ) where
+    pub report-short : ltb (length (g .counts)) n || ltb (length (g .thresholds)) n ≡ true → refused 2 ≡ reportOf references t n point g
+    unfolding reportOf
+    report-short e = rw e
+
+  module _ (n point : ℕ) (long : ltb (length (g .counts)) n || ltb (length (g .thresholds)) n ≡ false) where
     pub report-torn : tornTo references t n g ≡ true → refused 3 ≡ reportOf references t n point g
     unfolding reportOf
-    report-torn e = rw (le-ltb _ _ h, le-ltb _ _ k, e)
+    report-torn e = rw (long, e)
 
     pub report-whole : {middle raw hits all total : ℕ} → middle ≡ min point n → SoFar references t middle g raw hits
         → SoFar references t n g all total → gives (record { hits = hits; total = total }) ≡ reportOf references t n point g
     unfolding reportOf tornTo
     report-whole e m s =
         rw (
-          le-ltb _ _ h,
-          le-ltb _ _ k,
+          long,
           s .whole,
           le-ltb (oneReference * references) (rawTo n g) (omega (arith, s .raw-is, s .raw-high)),
           ← e,

@@ -4,21 +4,18 @@ use mathlib.Core.Path.{_≡_, refl, sym, ap, _∙_}
 use mathlib.Core.Bool.{Bool}
 use mathlib.Core.List.{List}
 use Rattle.rules.specs.Settings.{Histogram}
-use Rattle.rules.specs.Answers.{Result, refused, gives}
-use Rattle.rules.proofs.Answers.{undone}
-use Rattle.buckets.specs.declared.Sums.{Sums}
+use Rattle.rules.proofs.Answers.{number-injective}
+use Rattle.rules.proofs.Order.{not-both}
 use Rattle.buckets.specs.declared.Reported.{Reported}
 use Rattle.buckets.specs.declared.Reported.the-variants as reported
 use Rattle.buckets.specs.Buckets.{recorded, recordedOf, reportResult, reportOf}
 
 -- the answer of a report is decided by what it says
-answered : Result Sums → Reported
-answered (refused n) = reported.Torn
-answered (gives s) = reported.Sums s
-
 reported-injective : (a b : Reported) → reportResult a ≡ reportResult b → a ≡ b
-unfolding answered
-reported-injective = undone reportResult answered (elim [ reported.Sums s ↦ refl | reported.Torn ↦ refl ])
+reported-injective (reported.Sums s) (reported.Sums u) e = ap reported.Sums (cc)
+reported-injective (reported.Refused p) (reported.Refused q) e = ap reported.Refused (number-injective p q (cc))
+reported-injective (reported.Sums s) (reported.Refused q) e = absurd (not-both e refl)
+reported-injective (reported.Refused p) (reported.Sums u) e = absurd (not-both refl e)
 
 module _ (references t : ℕ) (g : Histogram) where
   pub record-in-unique : (j : ℕ) (r s : Bool) (counts thresholds counts' thresholds' : List ℕ)

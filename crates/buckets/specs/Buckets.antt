@@ -2,13 +2,15 @@
 use Prim.Native.Nat.{ℕ, _*_, _≤_, min}
 use mathlib.Core.Path.{_≡_}
 use mathlib.Core.Bool.{Bool, true, false, cond, _||_}
-use mathlib.Core.List.{List}
+use mathlib.Core.List.{List, [], _∷_}
 use lib.Dec.{ltb, leb}
 use lib.ListN.{length}
 use Rattle.rules.specs.Settings.{Histogram, oneReference}
 use Rattle.rules.specs.Reference.{recordIn}
 use Rattle.rules.specs.Curve.{sumTo, rawTo}
-use Rattle.rules.specs.Answers.{Result, refused, gives}
+use Rattle.rules.specs.declared.Refusal.the-variants as refusal
+use Rattle.rules.specs.Answers.{Result, refused, gives, number}
+use Rattle.rules.specs.Order.{Judged, _when_, says}
 use Rattle.rules.specs.Layout.{bucketsOf}
 use Rattle.rules.specs.Conditions.{tornAt, anyTorn, tornTo}
 use Rattle.buckets.specs.declared.Sums.{Sums}
@@ -38,13 +40,15 @@ recordedOf references t j g =
 -- the result of a report
 abbrev pub reportResult : Reported → Result Sums
 reportResult (reported.Sums s) = gives s
-reportResult reported.Torn = refused 3
+reportResult (reported.Refused r) = refused (number r)
 
--- the report of the first n buckets under t: the hits at a point and the total
+-- the report of the first n buckets under t: the hits at a point and the total; 2 if a table is shorter, 3 for the buckets
+abbrev pub reportOrder : (references t n : ℕ) → Histogram → List Judged
+reportOrder references t n g =
+    (refusal.Tables when (ltb (length (g .counts)) n || ltb (length (g .thresholds)) n)) ∷ (refusal.Torn when tornTo references t n g) ∷ []
+
 unfoldable pub reportOf : (references t n point : ℕ) → Histogram → Result Sums
-reportOf references t n point g =
-    cond (ltb (length (g .counts)) n || ltb (length (g .thresholds)) n || tornTo references t n g) (refused 3)
-    (gives (record { hits = sumTo t (min point n) g; total = sumTo t n g }))
+reportOf references t n point g = says (reportOrder references t n g) (record { hits = sumTo t (min point n) g; total = sumTo t n g })
 
 -- the buckets below n are not torn, and add up to raw and sum
 pub record SoFar (references t n : ℕ) (g : Histogram) (raw sum : ℕ) : Type 0 where

@@ -1,6 +1,7 @@
 // The histogram in its two lent tables: each bucket's count, in units of 1/256 reference, and the threshold it was last recorded under.
 use rules::FULL_RATE;
 use rules::ONE_REFERENCE;
+use rules::Refusal;
 ghost use mathlib.Core.Path.{_≡_};
 ghost use mathlib.Core.Bool.{false};
 ghost use Prim.Native.Nat.{_≤_, min};
@@ -19,8 +20,8 @@ pub struct Sums {
 pub enum Reported {
     // Its sums.
     Sums(Sums),
-    // A bucket is torn, the sum of the raw counts is too large, or a table is too short.
-    Torn,
+    // Tables: a table is too short. Torn: a bucket is torn, or the sum of the raw counts is too large.
+    Refused(Refusal),
 }
 
 // The sum of some buckets' raw counts, and the sum of their counts as reported.
@@ -126,17 +127,14 @@ pub fn report(
 ) -> Reported
     ensures { λ r. ⌜ reportResult r ≡ reportOf references threshold needed point (bucketsBefore counts thresholds) ⌝ }
 {
-    if counts.len() < needed {
-        return Reported::Torn;
-    }
-    if thresholds.len() < needed {
-        return Reported::Torn;
+    if (counts.len() < needed) | (thresholds.len() < needed) {
+        return Reported::Refused(Refusal::Tables);
     }
     let middle = lesser(point, needed);
     let none = Adding { raw: 0, sum: 0 };
     let Added::Whole(hits) = add_up(counts, thresholds, 0, middle, none, threshold, references)
     else {
-        return Reported::Torn;
+        return Reported::Refused(Refusal::Torn);
     };
     let Added::Whole(total) = add_up(
         counts,
@@ -147,7 +145,7 @@ pub fn report(
         threshold,
         references,
     ) else {
-        return Reported::Torn;
+        return Reported::Refused(Refusal::Torn);
     };
     Reported::Sums(Sums {
         hits: hits.sum,

@@ -75,7 +75,8 @@ module _ (x : ℕ) (s : Tracker) (a : Accepted x s) where
 
   stored-beyond : SameBeyond (neededBy set) (s .tables) (stored (stepOf x s) s .tables)
   stored-beyond =
-      let buckets = step-buckets (SameBuckets (needed (set .buckets)) g) (hashFor set) (set .limit) (profileOf set) x (sampleOf s) (refl, refl) recorded in
+      let same = SameBuckets (needed (set .buckets)) g in
+      let buckets = step-buckets same (hashFor set) (set .limit) (profileOf set) x (sampleOf s) (refl, refl) recorded in
       record {
         same-locations = over-behind (stepOf x s .left .live) (s .tables .locations) (set .limit) (live-left x s a);
         same-counts = buckets .0;

@@ -447,14 +447,18 @@ past-the-record = record {
 pub only-needed-in : OnlyNeededIn
 only-needed-in = record {
   by-setup = setup-beyond;
-  by-restart = λ h. let kept = recordOf (h .words) in let o = restartOf kept (h .tables) in
-      held-tables restartOver h (SameBeyond (neededBy (kept .settings)) (h .tables)) (same-all _ (h .tables))
-      (subst (SameBeyond (neededBy (kept .settings)) (h .tables)) (sym (started-tables kept (o .result) (o .left))) (only-needed .by-restart kept (h .tables)));
+  by-restart = λ h.
+      let kept = recordOf (h .words) in
+      let o = restartOf kept (h .tables) in
+      let same = SameBeyond (neededBy (kept .settings)) (h .tables) in
+      held-tables restartOver h same (same-all _ (h .tables))
+      (subst same (sym (started-tables kept (o .result) (o .left))) (only-needed .by-restart kept (h .tables)));
   by-refer = λ x h. held-tables (referOf x) h (SameBeyond (neededBy (recordOf (h .words) .settings)) (h .tables)) (same-all _ (h .tables))
       (only-needed .by-refer x (trackerIn h));
-  by-apply = λ bytes g h e. let set = settingsUnder (g .event) (recordOf (h .words) .settings) in
-      held-tables (applyGot (readOf bytes)) h (SameBeyond (neededBy set) (h .tables)) (same-all _ (h .tables))
-      (subst (λ r. SameBeyond (neededBy set) (h .tables) (applyGot r (trackerIn h) .left .tables)) (sym e) (only-needed .by-apply (g .event) (trackerIn h)));
+  by-apply = λ bytes g h e.
+      let same = SameBeyond (neededBy (settingsUnder (g .event) (recordOf (h .words) .settings))) (h .tables) in
+      held-tables (applyGot (readOf bytes)) h same (same-all _ (h .tables))
+      (subst (λ r. same (applyGot r (trackerIn h) .left .tables)) (sym e) (only-needed .by-apply (g .event) (trackerIn h)));
 }
 
 pub stale-by-number : StaleByNumber
@@ -469,7 +473,8 @@ stale-in past h holds believed k d =
     let by = stale-by-number (h .words) believed k (h .tables .histogram) d in
     (by .0 ∙ ap pointWords (five Point), by .1 ∙ ap plotWords (five PlotPoint))
   where
-    five : (A : Type 0) → _≡_ {A = Result A} (onWords (h .words) (refused (number (staleOr (recordOf (h .words)) (h .tables .histogram))))) (refused 5)
+    five : (A : Type 0)
+        → _≡_ {A = Result A} (onWords (h .words) (refused (number (staleOr (recordOf (h .words)) (h .tables .histogram))))) (refused 5)
     five A = enough-words (h .words) _ (holds .enough) ∙ ap (λ why. refused (number why)) (only-stale (holds .run))
 
 -- ---- calls are a run

@@ -1,6 +1,6 @@
 -- A point from the report's sums, and its numbers within what a double holds. Assumes nothing.
 use Prim.Native.Nat.{ℕ, _≤_, _<_, _^_}
-use mathlib.Core.Path.{_≡_, sym, subst, _∙_}
+use mathlib.Core.Path.{_≡_, sym, ap, subst, _∙_}
 use mathlib.Core.Bool.{true, false, cond}
 use native.Mathlib.Omega.{arith}
 use lib.Dec.{ltb, eqb}
@@ -14,7 +14,7 @@ use Rattle.rules.specs.declared.Point.{Point}
 use Rattle.buckets.specs.declared.Sums.{Sums}
 use Rattle.rules.specs.Settings.{Histogram, needed}
 use Rattle.rules.specs.Curve.{hitsAt, totalOf, curvePoint, plotPoint}
-use Rattle.rules.specs.Answers.{refused, gives}
+use Rattle.rules.specs.Answers.{Result, refused, gives}
 use Rattle.rules.specs.Layout.{profileOf}
 use Rattle.rules.specs.Conditions.{bucketsTooShort, tornRecord, tornReport, stale}
 use Rattle.rules.specs.Calls.{pointOf}
@@ -53,12 +53,15 @@ module _ (kept : Record) (believed : Shape) (n : ℕ) (g : Histogram)
       ≡ gives (record { hits = hitsAt (kept .threshold) n g; total = totalOf (kept .threshold) (kept .settings .buckets) g })
   report-sums t = report-is ∙ rw t
 
-  -- the report is torn
-  pub from-torn : refused 3 ≡ reportOf (kept .numbers .references) (kept .threshold) (needed (kept .settings .buckets)) n g
-      → refused 3 ≡ pointOf kept believed n g
-  from-torn r = cases (tornReport (kept .numbers .references) (kept .threshold) (kept .settings .buckets) g)
-      (λ t. sym (point-buckets kept believed n g e f h no-point t))
+  -- the report is refused: the buckets are torn
+  pub from-refused : {m : ℕ} → refused m ≡ reportOf (kept .numbers .references) (kept .threshold) (needed (kept .settings .buckets)) n g
+      → refused m ≡ pointOf kept believed n g
+  from-refused r = cases (tornReport (kept .numbers .references) (kept .threshold) (kept .settings .buckets) g)
+      (λ t. ap refused (same (r ∙ report-torn t)) ∙ sym (point-buckets kept believed n g e f h no-point t))
       (λ t. absurd (not-both (sym r) (report-sums t)))
+    where
+      same : {i j : ℕ} → _≡_ {A = Result Sums} (refused i) (refused j) → i ≡ j
+      same q = cc
 
   -- it has its sums
   module _ (sums : Sums) (r : gives sums ≡ reportOf (kept .numbers .references) (kept .threshold) (needed (kept .settings .buckets)) n g) where

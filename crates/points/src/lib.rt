@@ -68,7 +68,7 @@ pub fn point(
         references,
     ) {
         Reported::Sums(sums) => point_of(s, number, sums),
-        Reported::Torn => Pointed::Refused(Refusal::Torn),
+        Reported::Refused(why) => Pointed::Refused(why),
     }
 }
 

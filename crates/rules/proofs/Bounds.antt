@@ -2,11 +2,11 @@
 -- takes it apart link by link, and a link that is false is a bound. Assumes nothing.
 use Prim.Native.Nat.{ℕ, _*_, _^_, _≤_, _<_}
 use mathlib.Core.Path.{_≡_}
-use mathlib.Core.Bool.{false}
+use mathlib.Core.Bool.{false, _||_}
 use native.Mathlib.Nat.{mul-le-mul-left, le-trans}
 use native.Mathlib.Omega.{arith}
 use lib.ListN.{length}
-use lib.Dec.{eqb}
+use lib.Dec.{eqb, ltb}
 use borrow.Author.Tests.{eqb-false, ltb-false, ne-eqb, le-ltb}
 use Rattle.rules.specs.declared.Settings.{Settings}
 use Rattle.rules.specs.declared.Record.{Record}
@@ -86,11 +86,14 @@ unfolding tornRecord
 untorn kept e l t n r = rw (e, le-ltb _ _ l, le-ltb _ _ t, le-ltb _ _ n, le-ltb _ _ r)
 
 -- bucket tables that are long enough
-pub buckets-long : (s : Settings) (g : Histogram) → bucketsTooShort s g ≡ false → Long (needed (s .buckets)) g
-buckets-long s g e = let p = neither e in record {
-  counts-long = ltb-false (length (g .counts)) (needed (s .buckets)) (p .0);
-  thresholds-long = ltb-false (length (g .thresholds)) (needed (s .buckets)) (p .1);
+pub both-long : (n : ℕ) (g : Histogram) → ltb (length (g .counts)) n || ltb (length (g .thresholds)) n ≡ false → Long n g
+both-long n g e = let p = neither e in record {
+  counts-long = ltb-false (length (g .counts)) n (p .0);
+  thresholds-long = ltb-false (length (g .thresholds)) n (p .1);
 }
+
+pub buckets-long : (s : Settings) (g : Histogram) → bucketsTooShort s g ≡ false → Long (needed (s .buckets)) g
+buckets-long s g e = both-long (needed (s .buckets)) g e
 
 -- lent tables that are long enough
 pub record AllLong (s : Settings) (t : Tables) : Type 0 where

@@ -10,7 +10,7 @@ use Rattle.rules.specs.Layout.{bucketsOf}
 use Rattle.rules.specs.Conditions.{tornRecord, bucketsTooShort, stale}
 use Rattle.rules.proofs.Bounds.{Whole, whole}
 use Rattle.rules.proofs.Calls.{point-torn, point-short, point-stale, point-number}
-use Rattle.points.proofs.CurvePoints.{from-torn, from-sums, sums-ordered}
+use Rattle.points.proofs.CurvePoints.{from-refused, from-sums, sums-ordered}
 use borrow.Author.Needs.{needs}
 use Rattle.points.proofs.point.Statement.{statement}
 use Rattle.points.proofs.point.Tie as tie
@@ -98,8 +98,8 @@ point-of-requires c κs =
           _ (ap reportResult (sym (c .before .sums .given .1)) ∙ done .report .ensures),
     )
 
-enum-told : tie.Need-enum-told
-enum-told c = search needs
+enum-known-why : tie.Need-enum-known-why
+enum-known-why c = search needs
 
 returns-5 : tie.Need-returns-5
 returns-5 c =
@@ -113,12 +113,12 @@ returns-5 c =
 
 returns-6 : tie.Need-returns-6
 returns-6 c =
-    let done = c .before .before in
+    let done = c .before .before .before in
     let four = all-passed done in
     let three = third-passed four in
     let two = second-passed three in
-    from-torn _ _ _ _ (not-torn (first-passed two)) (not-short two) (not-stale three) (four .if4 .left)
-    (ap reportResult (sym (c .enum-told .given .1)) ∙ done .report .ensures)
+    from-refused _ _ _ _ (not-torn (first-passed two)) (not-short two) (not-stale three) (four .if4 .left)
+    (ap reportResult (sym (c .before .why .given .1)) ∙ done .report .ensures)
 
 pub point-spec : {M : Type 1} → statement M
 point-spec =
@@ -136,6 +136,6 @@ point-spec =
     report-requires
     enum-known-sums
     point-of-requires
-    enum-told
+    enum-known-why
     returns-5
     returns-6)
