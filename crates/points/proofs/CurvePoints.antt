@@ -2,6 +2,7 @@
 use Prim.Native.Nat.{ℕ, _≤_, _<_, _^_}
 use mathlib.Core.Path.{_≡_, sym, ap, subst, _∙_}
 use mathlib.Core.Bool.{true, false, cond}
+use native.Mathlib.Nat.{mul-le-mul-left, le-of-lt}
 use native.Mathlib.Omega.{arith}
 use lib.Dec.{ltb, eqb}
 use lib.Ieee.{binary64, round, div}
@@ -20,7 +21,6 @@ use Rattle.rules.specs.Conditions.{bucketsTooShort, tornRecord, tornReport, sta
 use Rattle.rules.specs.Calls.{pointOf}
 use Rattle.rules.proofs.Tests.{cases}
 use Rattle.rules.proofs.Bounds.{whole, buckets-long}
-use Rattle.rules.proofs.FullRate.{size-fits}
 use Rattle.rules.proofs.Report.{sum-rises, total-high}
 use Rattle.rules.proofs.Order.{not-both}
 use Rattle.rules.proofs.Calls.{point-buckets, point-empty, point-given, point-accepted}
@@ -91,10 +91,11 @@ module _ (kept : Record) (believed : Shape) (n : ℕ) (g : Histogram)
 
 -- ---- what a point that is answered holds
 
+-- "Size, misses and total are below 2^53."
 pub record InDouble (p : Point) : Type 0 where
-  pub size-fits : p .size ≤ 2 ^ 53
-  pub misses-fit : p .misses ≤ 2 ^ 53
-  pub total-fits : p .total ≤ 2 ^ 53
+  pub size-fits : p .size < 2 ^ 53
+  pub misses-fit : p .misses < 2 ^ 53
+  pub total-fits : p .total < 2 ^ 53
   pub total-some : 0 < p .total
 
 pub in-double : (kept : Record) (believed : Shape) (n : ℕ) (g : Histogram) (p : Point) → pointOf kept believed n g ≡ gives p → InDouble p
@@ -114,7 +115,7 @@ in-double kept believed n g p a = let w = point-accepted kept believed n g a in
         let w = whole kept e in
         let high = total-high (kept .numbers .references) (kept .threshold) g (kept .settings .buckets) t in
         subst InDouble q (record {
-          size-fits = size-fits (kept .settings) (w .range) n l;
+          size-fits = omega (arith, mul-le-mul-left n (w .range .width-high), w .range .buckets-high);
           misses-fit = omega (arith, w .references-high);
           total-fits = omega (arith, w .references-high);
           total-some = omega arith;
@@ -128,8 +129,8 @@ pub doubles : (p : Point) → InDouble p
     } ≡ plotPoint p
 doubles p d = λ i. record {
   size = round binary64 false (p .size) 1;
-  ratio = quotient binary64 (p .misses) (p .total) (d .misses-fit) (d .total-fits) (d .total-some) i;
+  ratio = quotient binary64 (p .misses) (p .total) (le-of-lt (d .misses-fit)) (le-of-lt (d .total-fits)) (d .total-some) i;
 }
 
 pub size-exact : (p : Point) → InDouble p → HasValue (plotPoint p .size) false (p .size) 1
-size-exact p d = round-whole binary64 false (p .size) (d .size-fits)
+size-exact p d = round-whole binary64 false (p .size) (le-of-lt (d .size-fits))

@@ -2,8 +2,10 @@
 use mathlib.Core.Path.{_≡_, sym, ap, _∙_}
 use Prim.Native.Nat.{ℕ}
 use mathlib.Core.List.{List}
-use denote.Ref.{RefT, now}
+use denote.Ref.{RefT, ptr, now}
+use Rattle.rules.specs.Layout.{part, tailOf}
 use Rattle.rules.proofs.Answers.{reading-injective}
+use Rattle.rules.proofs.Tables.{part-injective}
 use Rattle.reader.specs.declared.Reader.{Reader}
 use Rattle.reader.specs.declared.Moved.{Moved}
 use Rattle.reader.specs.declared.Front.{Front}
@@ -19,8 +21,10 @@ next-once r a b p q =
     let reader = ap (λ z. z .reader) k in
     λ i. record { reading = reading i; reader = reader i }
 
-pub left-once : (r : Reader) (a b : List ℕ) → a ≡ leftAt (now (r .src)) (r .at) → b ≡ leftAt (now (r .src)) (r .at) → a ≡ b
-left-once r a b p q = p ∙ sym q
+-- the part that is handed back: where it stands, and its bytes
+pub left-once : (r : Reader) (a b : RefT (List ℕ)) → part a ≡ tailOf (r .src) (leftAt (now (r .src)) (r .at))
+    → part b ≡ tailOf (r .src) (leftAt (now (r .src)) (r .at)) → (ptr a ≡ ptr b) × (now a ≡ now b)
+left-once r a b p q = part-injective a b (p ∙ sym q)
 
 pub whole-events-once : (bytes : List ℕ) (a b : Front) → a ≡ frontOf bytes → b ≡ frontOf bytes → a ≡ b
 whole-events-once bytes a b p q = p ∙ sym q

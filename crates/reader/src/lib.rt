@@ -2,6 +2,7 @@
 // The borrow checker does not cover functions over such a struct, so `new`, `next`, `left` and `step` are proved by hand. They
 // are thin; the work is done by functions over the bytes and the place.
 ghost use mathlib.Core.Path.{_≡_};
+ghost use Rattle.rules.specs.Layout.{part, tailOf};
 ghost use Rattle.reader.specs.Reader.{leftAt, stepAt, advancedResult, atFront, nextOf, movedResult, frontOf};
 use rules::Reading;
 
@@ -30,7 +31,7 @@ pub struct Front {
 
 // The bytes from a place on: none, if the place is past the end.
 fn left_at(bytes: &[u8], at: usize) -> &[u8]
-    ensures { λ r. ⌜ now r ≡ leftAt (now (bytes .entry)) at ⌝ }
+    ensures { λ r. ⌜ part r ≡ tailOf (bytes .entry) (leftAt (now (bytes .entry)) at) ⌝ }
 {
     if at <= bytes.len() {
         &bytes[at..]
@@ -76,7 +77,7 @@ pub fn next<'a>(r: Reader<'a>) -> Moved<'a>
 
 // What is left to read, as a slice of the caller's own bytes.
 pub fn left<'a>(r: Reader<'a>) -> &'a [u8]
-    ensures { λ s. ⌜ now s ≡ leftAt (now (r .entry .src)) (r .entry .at) ⌝ }
+    ensures { λ s. ⌜ part s ≡ tailOf (r .entry .src) (leftAt (now (r .entry .src)) (r .entry .at)) ⌝ }
 {
     left_at(r.src, r.at)
 }

@@ -4,6 +4,7 @@ ghost use Prim.Native.Nat.{_+_, _≤_};
 ghost use lib.ListN.{length, drop};
 ghost use Rattle.rules.specs.Answers.{readingResult};
 ghost use Rattle.rules.specs.Events.{numberAt, setupBodyOf, ifAllThere, readOf, unreadOf};
+ghost use Rattle.rules.specs.Layout.{part, tailOf};
 use rules::Event;
 use rules::LOCATION_BYTES;
 use rules::RESTART_BYTES;
@@ -72,14 +73,14 @@ pub fn read(bytes: &[u8]) -> Reading
 
 fn rest(bytes: &[u8], at: usize) -> &[u8]
     requires { ⌜ at ≤ length (now bytes) ⌝ }
-    ensures { λ r. ⌜ now r ≡ drop at (now (bytes .entry)) ⌝ }
+    ensures { λ r. ⌜ part r ≡ tailOf (bytes .entry) (drop at (now (bytes .entry))) ⌝ }
 {
     &bytes[at..]
 }
 
-// What follows the first event, or all of the bytes if that event is refused.
+// What follows the first event, or all of the bytes if that event is refused, as a slice of the caller's own bytes.
 pub fn unread(bytes: &[u8]) -> &[u8]
-    ensures { λ r. ⌜ now r ≡ unreadOf (now (bytes .entry)) ⌝ }
+    ensures { λ r. ⌜ part r ≡ tailOf (bytes .entry) (unreadOf (now (bytes .entry))) ⌝ }
 {
     match read(bytes) {
         Reading::Got(_, taken) => rest(bytes, taken),

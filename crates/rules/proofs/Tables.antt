@@ -1,4 +1,5 @@
--- A list written over the front of a table, by induction on the two lists, and the lent tables one by one. Assumes nothing.
+-- A list written over the front of a table, by induction on the two lists, the lent tables one by one, and the tail of lent bytes.
+-- Assumes nothing.
 use Prim.Native.Nat.{ℕ, zero, suc, _+_, _-_, _≤_, _<_, min}
 use mathlib.Core.Path.{_≡_, refl, sym, ap, subst, _∙_}
 use mathlib.Core.Logic.{⊎-elim}
@@ -8,8 +9,10 @@ use native.Mathlib.Omega.{arith}
 use lib.ListN.{length, getD, take, drop, set, replicate, length-append, length-drop}
 use lib.ListN.{length-set, length-replicate, replicate-append-replicate, take-append-drop}
 use lib.Seq.{take-all, length-take-le, take-at, drop-append-add, drop-drop}
+use denote.Ref.{RefT, ptr, now}
 use Rattle.rules.specs.Lists.{over}
 use Rattle.rules.specs.Settings.{Tables}
+use Rattle.rules.specs.Layout.{part, tailOf}
 
 pub over-at : (new old : List ℕ) (i : ℕ) → length new ≤ i → i < length old → getD (over new old) i 0 ≡ getD old i 0
 over-at [] old i h k = refl
@@ -77,3 +80,25 @@ fill-more v xs now i h f = record {
 pub each-same : {t u : Tables} → t ≡ u
     → (t .locations ≡ u .locations) × (t .histogram .counts ≡ u .histogram .counts) × (t .histogram .thresholds ≡ u .histogram .thresholds)
 each-same e = (ap (λ z. z .locations) e, ap (λ z. z .histogram .counts) e, ap (λ z. z .histogram .thresholds) e)
+
+-- a part from a place on, as the machine takes it, has all that follows the place
+pub from-place : (s : List ℕ) (at : ℕ) → take (length s - at) (drop at s) ≡ drop at s
+from-place s at = take-all (length s - at) (drop at s) (simp length-drop (omega arith))
+
+-- the part of lent bytes from a place on, as the machine takes it
+abbrev pub fromPlace : RefT (List ℕ) → (at : ℕ) → RefT (List ℕ)
+fromPlace r at = record { ptr = (ptr r .0, at + ptr r .1); name = r .name; now = take (length (now r) - at) (drop at (now r)) }
+
+-- it is the tail that follows the place
+pub tail-from : (r : RefT (List ℕ)) (at : ℕ) → at ≤ length (now r) → part (fromPlace r at) ≡ tailOf r (drop at (now r))
+tail-from r at h =
+    let all = from-place (now r) at in
+    let ending : part (fromPlace r at) .ending ≡ part r .ending = rw (all, length-drop) (omega arith) in
+    λ i. record { block = ptr r .0; ending = ending i; bytes = all i }
+
+-- a part tells where it begins, too
+pub part-injective : (r s : RefT (List ℕ)) → part r ≡ part s → (ptr r ≡ ptr s) × (now r ≡ now s)
+part-injective r s e =
+    let bytes = ap (λ z. z .bytes) e in
+    let begin : ptr r .1 ≡ ptr s .1 = omega (arith, ap (λ z. z .ending) e, ap length bytes) in
+    ((λ i. (e i .block, begin i)), bytes)

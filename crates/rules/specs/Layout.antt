@@ -2,7 +2,7 @@
 use Prim.Native.Nat.{ℕ, _+_}
 use mathlib.Core.List.{List}
 use lib.ListN.{length, take, replicate}
-use denote.Ref.{RefT, now}
+use denote.Ref.{RefT, ptr, now}
 use denote.Triple.Both.{Both}
 use Rattle.rules.specs.declared.Settings.{Settings}
 use Rattle.rules.specs.declared.Numbers.{Numbers}
@@ -48,6 +48,21 @@ trackerBefore kept locations counts thresholds = record { kept = kept; tables = 
 
 abbrev pub trackerAfter : Record → (locations counts thresholds : Lent) → Tracker
 trackerAfter kept locations counts thresholds = record { kept = kept; tables = tablesAfter locations counts thresholds }
+
+-- ---- what a promise says of a part that is handed back
+
+-- lent bytes: the block of memory that they stand in, the place in it where they end, counted in bytes, and the bytes
+pub record Part : Type 0 where
+  pub block : ℕ
+  pub ending : ℕ
+  pub bytes : List ℕ
+
+abbrev pub part : RefT (List ℕ) → Part
+part r = record { block = ptr r .0; ending = ptr r .1 + length (now r); bytes = now r }
+
+-- the tail of lent bytes that has these bytes: in the same block, with the same end
+abbrev pub tailOf : RefT (List ℕ) → List ℕ → Part
+tailOf r bytes = record { block = part r .block; ending = part r .ending; bytes = bytes }
 
 -- ---- where the list and the buckets stand
 

@@ -1,5 +1,6 @@
--- The answer is the point's, with its numbers as doubles: each is at most 2^53, so it is held exactly, and the quotient is rounded once.
+-- The answer is the point's, with its numbers as doubles: each is below 2^53, so it is held exactly, and the quotient is rounded once.
 use mathlib.Core.Path.{_≡_, sym, ap, _∙_}
+use native.Mathlib.Nat.{le-of-lt}
 use denote.Ref.{now}
 use lib.Dec.{le→leb}
 use lib.Ieee.{inFloat, ofInt}
@@ -28,15 +29,15 @@ enum-known-p c = search needs
 
 int-to-float-t10 : tie.Need-int-to-float-t10
 unfolding inFloat
-int-to-float-t10 c = le→leb _ _ (within (c .before .before) .size-fits)
+int-to-float-t10 c = le→leb _ _ (le-of-lt (within (c .before .before) .size-fits))
 
 int-to-float-t11 : tie.Need-int-to-float-t11
 unfolding inFloat
-int-to-float-t11 c = le→leb _ _ (within (c .before .before .before) .misses-fit)
+int-to-float-t11 c = le→leb _ _ (le-of-lt (within (c .before .before .before) .misses-fit))
 
 int-to-float-t12 : tie.Need-int-to-float-t12
 unfolding inFloat
-int-to-float-t12 c = le→leb _ _ (within (c .before .before .before .before) .total-fits)
+int-to-float-t12 c = le→leb _ _ (le-of-lt (within (c .before .before .before .before) .total-fits))
 
 enum-known-why : tie.Need-enum-known-why
 enum-known-why c = search needs

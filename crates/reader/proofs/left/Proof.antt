@@ -7,6 +7,7 @@ use Rattle.reader.proofs.Walks.{look-in, look, init, forget, stop, fld,
 use Rattle.reader.proofs.Walks.{returns, enter, alloc1, alloc0, params1, pass1, pass0, free1, free0, FmC, Is, u8, now, Slot}
 use Rattle.reader.proofs.Walks.{shr-slice-lawful, Triple, calls-at, cited, emp, factI, Fun, Memory, Routine, B, Own, Fact}
 use Rattle.reader.proofs.Walks.{promise, calls-frame, answered, Entry, Post, exits, handed-reader, OverBytes, to, apart}
+use Rattle.rules.specs.Layout.{part, tailOf}
 use Rattle.reader.specs.declared.Reader.{Reader}
 use Rattle.reader.specs.Reader.{leftAt}
 use Rattle.reader.proofs.Reader.Laws as T′
@@ -24,7 +25,7 @@ res = left.signature .result
 
 -- what the callee says of it
 abbrev ψ : Fact (OverBytes res)
-ψ κs a r = now r ≡ leftAt (now (a .0)) (a .1 .0)
+ψ κs a r = part r ≡ tailOf (a .0) (leftAt (now (a .0)) (a .1 .0))
 
 module _ {M : Type 1} (𝓤 : URA M) (H : Heap 𝓤) (A : Atoms 𝓤) (mem : Memory → SProp 𝓤) (run : Routine → Fun 𝓤) (W : Given 𝓤 H A) (C : Calls 𝓤 H)
     (Λ : Loops 𝓤 H) (fm : FmC 𝓤 H (W .laws) C) (known : Triple 𝓤 (C #left-at) (promise 𝓤 H A (OverBytes res) ψ)) where

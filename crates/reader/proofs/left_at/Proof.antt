@@ -1,11 +1,12 @@
 -- Within the bytes the part from the place on is handed back; beyond them the part at their end, which is empty.
 use borrow.Author.Needs.{needs}
-use mathlib.Core.Path.{sym, _∙_}
+use mathlib.Core.Path.{sym, ap, _∙_}
 use native.Mathlib.Omega.{arith}
 use lib.ListN.{length}
 use lib.Seq.{drop-length}
 use denote.Ref.{now}
-use Rattle.reading.proofs.Laws.{from-place}
+use Rattle.rules.specs.Layout.{tailOf}
+use Rattle.rules.proofs.Tables.{tail-from}
 use Rattle.reader.proofs.Laws.{left-beyond}
 use Rattle.reader.proofs.left_at.Statement.{statement}
 use Rattle.reader.proofs.left_at.Tie as tie
@@ -29,12 +30,14 @@ part-result-end-2 : tie.Need-part-result-end-2
 part-result-end-2 c = search needs
 
 returns : tie.Need-returns
-returns c = from-place (now (c .before .before .args .bytes)) (c .before .before .args .at)
+returns c = tail-from (c .before .before .args .bytes) (c .before .before .args .at) (omega arith)
 
 returns-2 : tie.Need-returns-2
 returns-2 c =
-    let bytes = now (c .before .before .args .bytes) in
-    from-place bytes (length bytes) ∙ drop-length bytes ∙ sym (left-beyond bytes (c .before .before .args .at) (omega arith))
+    let src = c .before .before .args .bytes in
+    let bytes = now src in
+    tail-from src (length bytes) (omega arith)
+    ∙ ap (tailOf src) (drop-length bytes ∙ sym (left-beyond bytes (c .before .before .args .at) (omega arith)))
 
 pub left-at-spec : {M : Type 1} → statement M
 left-at-spec =

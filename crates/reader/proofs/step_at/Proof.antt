@@ -27,7 +27,7 @@ start d = d .before .before .before
 
 -- the reading is the one at the place
 at-place : (d : tie.After-read) → (let a = start d .args in readAt (now (a .bytes)) (a .at) ≡ readingResult (d .read .result))
-at-place d = rw (← d .before .left-at .ensures) (sym (d .read .ensures))
+at-place d = rw (← ap (λ z. z .bytes) (d .before .left-at .ensures)) (sym (d .read .ensures))
 
 is-got : (c : tie.After-known-told) → (let a = start (c .before .before .before) .args in
     readAt (now (a .bytes)) (a .at) ≡ got (c .before .reading .given .0 .0) (c .before .reading .given .0 .1 .0))

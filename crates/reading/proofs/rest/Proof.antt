@@ -1,6 +1,5 @@
 use borrow.Author.Needs.{needs}
-use denote.Ref.{now}
-use Rattle.reading.proofs.Laws.{from-place}
+use Rattle.rules.proofs.Tables.{tail-from}
 use Rattle.reading.proofs.rest.Statement.{statement}
 use Rattle.reading.proofs.rest.Tie as tie
 
@@ -14,7 +13,7 @@ part-result-end : tie.Need-part-result-end
 part-result-end c = search needs
 
 returns : tie.Need-returns
-returns c = from-place (now (c .before .args .bytes)) (c .before .args .at)
+returns c = tail-from (c .before .args .bytes) (c .before .args .at) (c .before .pre)
 
 pub rest-spec : {M : Type 1} → statement M
 rest-spec = tie.close (tie.spec sub-result part-result-start part-result-end returns)
