@@ -41,6 +41,9 @@ use Rattle.feed.specs.Past.{pastAfter, pastOf, freshStart, Events, none}
 use Rattle.feed.proofs.Laws.{Took, apply-either, by-feeding}
 use Rattle.feed.proofs.Pieces.{taken-alone}
 use Rattle.feed.proofs.Runs.{ran}
+use Rattle.rules.specs.declared.Written.the-variants as written
+use Rattle.writing.specs.ReadBack.{WritePromise}
+use Rattle.writing.proofs.Laws.{reads-back}
 use Rattle.words.specs.Words.{fewWords, recordOf, put, storedIf, returned, answerWords, pointWords, plotWords, eventWords}
 use Rattle.words.specs.Words.{gotWords, appliedWords, writtenWords, fedWords}
 use Rattle.words.proofs.Laws.{put-length, record-of-put}
@@ -49,6 +52,7 @@ use Rattle.driver.specs.Calls.{restartIn, referIn, applyGot, applyIn, fe
 use Rattle.driver.specs.Driven.{Accepted, AcceptedOn, ZeroWhen, ZeroIsAccepted, LeftAsItWas, FedAlone, TooFew, SamePast}
 use Rattle.driver.specs.Driven.{PastTheRecord, OnlyNeededIn, StaleByNumber, StaleIn}
 use Rattle.driver.specs.Driven.{HoldsRun, FedRun, CallsAreARun, ThresholdIn, LiveListIn, NothingElseIn, ReferencesIn, FullRateIn}
+use Rattle.driver.specs.Driven.{ReadBackIn}
 use Rattle.driver.proofs.Laws.{answer-number, stored-same, by-words, setup-few, got-is, fed-by}
 
 -- ---- a result, by its number
@@ -541,6 +545,17 @@ calls-are-a-run = record {
       event-run bytes g h read z [] (λ left t. subst (λ p. Run p left) (fresh-past (g .event) b) (t .begins b []));
   by-feed = feed-run;
 }
+
+-- ---- what was written is read back
+
+pub read-back-in : ReadBackIn
+read-back-in e before after w (is, fits) z bytes = result-cases (writeOf e before .result)
+    (λ n filled begins.
+    let told : w .length ≡ n = ap (λ o. o .value .length) is ∙ ap (λ r. writtenWords r .length) filled in
+    let promise : WritePromise e before (written.Filled n) after = ((λ i. outcome (sym filled i) (is i .left)), fits) in
+    ap eventWords (reads-back e before after n promise bytes (subst (λ k. take k bytes ≡ take k after) told begins))
+    ∙ (λ i. eventWords (gives (record { event = e; taken = sym told i }))))
+    (λ n r begins. absurd (write-some e before (r ∙ ap refused (sym (ap (λ q. writtenWords q .refusal) r) ∙ sym (ap (λ o. o .value .refusal) is) ∙ z))))
 
 -- ---- demands 2 and 3
 

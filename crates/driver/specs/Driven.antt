@@ -10,7 +10,7 @@ use Rattle.rules.specs.declared.Event.{Event}
 use Rattle.rules.specs.Lists.{keep}
 use Rattle.rules.specs.Settings.{withDefaults, Histogram, fullRate, oneReference}
 use Rattle.rules.specs.Answers.{Result, refused, gives, number, Got}
-use Rattle.rules.specs.Events.{readOf, writeOf}
+use Rattle.rules.specs.Events.{Fits, readOf, writeOf}
 use Rattle.rules.specs.Layout.{hashFor}
 use Rattle.rules.specs.Calls.{setupOf, restartOf, referOf, pointOf, plotOf}
 use Rattle.rules.specs.History.{recency, Largest, Reference, locations}
@@ -22,7 +22,8 @@ use Rattle.demands.specs.Statements.{historyReply, inForce, sizeAt, Alone}
 use Rattle.feed.specs.Feed.{whole, feedOf}
 use Rattle.feed.specs.Past.{pastAfter, pastOf, freshStart, anyFreshStart, Events}
 use Rattle.words.specs.declared.PointWords.{PointWords}
-use Rattle.words.specs.Words.{fewWords, recordOf, returned, answerWords, pointWords, plotWords, fedWords}
+use Rattle.words.specs.declared.WrittenWords.{WrittenWords}
+use Rattle.words.specs.Words.{fewWords, recordOf, returned, answerWords, pointWords, plotWords, eventWords, fedWords}
 use Rattle.driver.specs.Calls.{Held, trackerIn, onWords, applyGot, fewForSetup}
 use Rattle.driver.specs.Calls.{setupIn, restartIn, referIn, pointIn, plotIn, applyIn, feedIn, readIn, writeIn}
 
@@ -140,6 +141,17 @@ abbrev pub StaleIn : Type 0
 StaleIn = (past : List Reference) (h : Held) → HoldsRun past h → (believed : Shape) (k : ℕ) → AnotherShape believed (recordOf (h .words) .settings)
     → (pointIn (h .words) believed k (h .tables .histogram) ≡ pointWords (refused 5))
     × (plotIn (h .words) believed k (h .tables .histogram) ≡ plotWords (refused 5))
+
+-- ---- demand 2: what a C call wrote is read back
+
+-- the promise of each call that writes an event, both clauses
+abbrev pub WritingPromise : Event → (before : List ℕ) → WrittenWords → (after : List ℕ) → Type 0
+WritingPromise e before w after = (returned w after ≡ writeIn e before) × Fits e
+
+-- reading any bytes that begin with those that were filled returns the event with their number
+abbrev pub ReadBackIn : Type 0
+ReadBackIn = (e : Event) (before after : List ℕ) (w : WrittenWords) → WritingPromise e before w after → w .refusal ≡ 0
+    → (bytes : List ℕ) → take (w .length) bytes ≡ take (w .length) after → readIn bytes ≡ eventWords (gives (record { event = e; taken = w .length }))
 
 -- ---- demands 2 and 3, of the words that such calls left
 

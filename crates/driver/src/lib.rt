@@ -38,6 +38,7 @@ ghost use mathlib.Core.Path.{_≡_};
 ghost use Rattle.rules.specs.Layout.{bucketsBefore};
 ghost use Rattle.words.specs.Words.{settingsFrom, shapeFrom, returned};
 ghost use Rattle.driver.specs.Calls.{version, heldBefore, heldAfter, setupBodyFrom, fewForSetup};
+ghost use Rattle.rules.specs.Events.{Fits};
 ghost use Rattle.driver.specs.Calls.{hashIn, setupIn, restartIn, referIn, pointIn, plotIn, applyIn, feedIn, readIn, writeIn};
 
 // The version of this interface. It is part of the exported names of setup, apply and feed: the calls that make a record.
@@ -236,6 +237,7 @@ pub extern "C" fn rockgingham_read(bytes: &[u8]) -> EventWords
 #[no_mangle]
 pub extern "C" fn rockgingham_write_location(location: u64, buffer: &mut [u8]) -> WrittenWords
     ensures { λ r. ⌜ returned r (now (buffer .exit)) ≡ writeIn (Event.Location location) (now (buffer .entry)) ⌝ }
+    ensures { λ _. ⌜ Fits (Event.Location location) ⌝ }
 {
     written_words(writing::write(Event::Location(location), buffer))
 }
@@ -247,6 +249,7 @@ pub extern "C" fn rockgingham_write_span(
     buffer: &mut [u8],
 ) -> WrittenWords
     ensures { λ r. ⌜ returned r (now (buffer .exit)) ≡ writeIn (Event.Span offset length) (now (buffer .entry)) ⌝ }
+    ensures { λ _. ⌜ Fits (Event.Span offset length) ⌝ }
 {
     written_words(writing::write(Event::Span { offset, length }, buffer))
 }
@@ -254,6 +257,7 @@ pub extern "C" fn rockgingham_write_span(
 #[no_mangle]
 pub extern "C" fn rockgingham_write_restart(buffer: &mut [u8]) -> WrittenWords
     ensures { λ r. ⌜ returned r (now (buffer .exit)) ≡ writeIn Event.Restart (now (buffer .entry)) ⌝ }
+    ensures { λ _. ⌜ Fits Event.Restart ⌝ }
 {
     written_words(writing::write(Event::Restart, buffer))
 }
@@ -269,6 +273,7 @@ pub extern "C" fn rockgingham_write_setup(
 ) -> WrittenWords
     ensures { λ r. ⌜ returned r (now (buffer .exit))
         ≡ writeIn (Event.Setup (setupBodyFrom limit start width buckets kind)) (now (buffer .entry)) ⌝ }
+    ensures { λ _. ⌜ Fits (Event.Setup (setupBodyFrom limit start width buckets kind)) ⌝ }
 {
     let body = SetupBody {
         limit,

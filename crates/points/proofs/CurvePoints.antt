@@ -2,7 +2,7 @@
 use Prim.Native.Nat.{ℕ, _≤_, _<_, _^_}
 use mathlib.Core.Path.{_≡_, sym, ap, subst, _∙_}
 use mathlib.Core.Bool.{true, false, cond}
-use native.Mathlib.Nat.{mul-le-mul-left, le-of-lt}
+use native.Mathlib.Nat.{le-of-lt}
 use native.Mathlib.Omega.{arith}
 use lib.Dec.{ltb, eqb}
 use lib.Ieee.{binary64, round, div}
@@ -23,6 +23,7 @@ use Rattle.rules.proofs.Tests.{cases}
 use Rattle.rules.proofs.Bounds.{whole, buckets-long}
 use Rattle.rules.proofs.Report.{sum-rises, total-high}
 use Rattle.rules.proofs.Order.{not-both}
+use Rattle.rules.proofs.FullRate.{size-fits as size-below}
 use Rattle.rules.proofs.Calls.{point-buckets, point-empty, point-given, point-accepted}
 use Rattle.buckets.specs.Buckets.{reportOf}
 use Rattle.buckets.proofs.Laws.{report-needed}
@@ -115,7 +116,7 @@ in-double kept believed n g p a = let w = point-accepted kept believed n g a in
         let w = whole kept e in
         let high = total-high (kept .numbers .references) (kept .threshold) g (kept .settings .buckets) t in
         subst InDouble q (record {
-          size-fits = omega (arith, mul-le-mul-left n (w .range .width-high), w .range .buckets-high);
+          size-fits = size-below (kept .settings) (w .range) n l;
           misses-fit = omega (arith, w .references-high);
           total-fits = omega (arith, w .references-high);
           total-some = omega arith;

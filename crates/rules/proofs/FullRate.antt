@@ -56,7 +56,7 @@ pub profile-cut : (s : Settings) → InRange s → Cut (profileOf s)
 profile-cut s r = widths-cut (s .width) (s .buckets) (omega (arith, r .width-low))
 
 -- and a double holds each of its sizes
-pub size-fits : (s : Settings) → InRange s → (k : ℕ) → k ≤ s .buckets → profileOf s .size k ≤ 2 ^ 53
+pub size-fits : (s : Settings) → InRange s → (k : ℕ) → k ≤ s .buckets → profileOf s .size k < 2 ^ 53
 size-fits s r k l = omega (arith, mul-le-mul-left k (r .width-high), r .buckets-high)
 
 -- what a histogram holds at full rate: of `references` references, `hit n` found their block in a cache of n blocks

@@ -1,30 +1,41 @@
 -- The numbers of an event that a program holds fit their types, so what is written is read back. Assumes nothing.
+use Prim.Native.Nat.{ℕ}
 use mathlib.Core.Path.{_≡_, _∙_}
-use mathlib.Core.List.{_++_}
+use mathlib.Core.List.{List, [], _∷_, _++_}
 use native.Mathlib.Omega.{arith}
 use lib.ListN.{take, drop, take-append-drop}
-use denote.Enum.Laws.{owed}
+use denote.Laws.{Is}
+use denote.Enum.Declared.{row}
+use denote.Enum.Laws.{val, owed}
 use Rattle.rules.specs.declared.Event.{Event}
 use Rattle.rules.specs.declared.Event.the-variants.{Location, Span, Restart, Setup}
 use Rattle.rules.specs.declared.Reading.the-variants as reading
-use Rattle.rules.specs.Events.{eventBytes, Fits}
+use Rattle.rules.specs.declared.Written.the-variants as written
+use Rattle.rules.specs.Answers.{gives}
+use Rattle.rules.specs.Events.{eventBytes, Fits, readOf}
 use Rattle.rules.proofs.Event.{the-type}
 use Rattle.rules.proofs.Event.Laws.{the-laws}
 use Rattle.rules.proofs.Answers.{reading-injective}
 use Rattle.rules.proofs.Events.{write-filled}
 use Rattle.rules.proofs.Tables.{over-front}
 use Rattle.rules.proofs.Round.{round}
-use Rattle.writing.specs.ReadBack.{Held, WrittenIsRead}
+use Rattle.writing.specs.ReadBack.{WritePromise, WrittenIsRead}
 
-pub held-fits : (e : Event) → Held e → Fits e
+pub held-fits : (e : Event) → Is (row the-type) e (val the-type the-laws e ∷ []) → Fits e
 held-fits (Location x) held = omega (arith, owed the-type the-laws (Location x) _ held)
 held-fits (Span offset bytes) held = omega (arith, owed the-type the-laws (Span offset bytes) _ held)
 held-fits Restart held = tt
 held-fits (Setup b) held = omega (arith, owed the-type the-laws (Setup b) _ held)
 
-pub written-is-read : WrittenIsRead
-written-is-read e held before after n w bytes begins r said =
+-- bytes that begin with those that were filled
+pub reads-back : (e : Event) (before after : List ℕ) (n : ℕ) → WritePromise e before (written.Filled n) after
+    → (bytes : List ℕ) → take n bytes ≡ take n after → readOf bytes ≡ gives (record { event = e; taken = n })
+reads-back e before after n (w, fits) bytes begins =
     let k = write-filled e before n after w in
     let filled : take n after ≡ eventBytes e = rw (k .1, k .0) (over-front (eventBytes e) before) in
     let whole : eventBytes e ++ drop n bytes ≡ bytes = rw (← begins ∙ filled) (take-append-drop n bytes) in
-    reading-injective r (reading.Got e n) (said ∙ rw (← whole, k .0) (round e _ (held-fits e held)))
+    rw (← whole, k .0) (round e _ fits)
+
+pub written-is-read : WrittenIsRead
+written-is-read e before after n w bytes begins r said =
+    reading-injective r (reading.Got e n) (said ∙ reads-back e before after n w bytes begins)

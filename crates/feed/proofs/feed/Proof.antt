@@ -10,7 +10,7 @@ use denote.Ref.{now}
 use Rattle.rules.specs.Answers.{gives, Got, readingResult}
 use Rattle.rules.specs.Events.{readOf}
 use Rattle.rules.specs.Layout.{tracker}
-use Rattle.reading.proofs.Laws.{from-place}
+use Rattle.rules.proofs.Tables.{from-place}
 use Rattle.feed.proofs.Loop.{Going, going-none, at-end, at-unread, ahead, at-refused, goes-on}
 use Rattle.feed.proofs.feed.Statement.{statement}
 use Rattle.feed.proofs.feed.Tie as tie
