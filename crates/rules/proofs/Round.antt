@@ -11,13 +11,10 @@ use lib.Seq.{drop-append-seam, drop-cons}
 use borrow.Author.Tests.{le-ltb}
 use Rattle.rules.specs.declared.Event.{Event}
 use Rattle.rules.specs.declared.Event.the-variants.{Location, Span, Restart, Setup}
-use Rattle.rules.specs.declared.Reading.{Reading}
-use Rattle.rules.specs.declared.Reading.the-variants as reading
 use Rattle.rules.specs.declared.Written.the-variants as written
-use Rattle.rules.specs.Answers.{Result, refused, gives, Got, readingResult, writtenResult}
+use Rattle.rules.specs.Answers.{Result, refused, gives, Got, writtenResult}
 use Rattle.rules.specs.Order.{outcome}
 use Rattle.rules.specs.Events.{bytesOf, numberAt, eventBytes, eventLength, readOf, unreadOf, writeOf, Fits, Bytes}
-use Rattle.rules.proofs.Answers.{reading-injective}
 use Rattle.rules.proofs.LittleEndian.{number-bytes, number-below, bytes-number}
 use Rattle.rules.proofs.Events.{got, read-kind, by-reading, write-filled}
 
@@ -50,18 +47,12 @@ round (Setup b) rest f =
 pub round-unread : (e : Event) (rest : List ℕ) → Fits e → unreadOf (eventBytes e ++ rest) ≡ rest
 round-unread e rest f = rw (round e rest f) (drop-append-seam (eventBytes e) rest)
 
--- by the promises alone: where `write` filled n bytes of a buffer, `read` of that buffer answers the event with n
-module _ (e : Event) (n : ℕ) (before after : List ℕ) (f : Fits e) (w : outcome (writtenResult (written.Filled n)) after ≡ writeOf e before) where
-  pub written-read : (q : Reading) → readingResult q ≡ readOf after → q ≡ reading.Got e n
-  written-read q r =
-      let k = write-filled e before n after w in
-      reading-injective q (reading.Got e n) (r ∙ rw (k .1, k .0) (round e (drop (eventLength e) before) f))
-
-  -- and `unread` hands back what stood behind those bytes beforehand
-  pub written-unread : unreadOf after ≡ drop n before
-  written-unread =
-      let k = write-filled e before n after w in
-      rw (k .1, k .0) (round-unread e (drop (eventLength e) before) f)
+-- by the promise alone: where `write` filled n bytes of a buffer, what is unread of it then is what stood behind those n before
+pub written-unread : (e : Event) (n : ℕ) (before after : List ℕ) → Fits e → outcome (writtenResult (written.Filled n)) after ≡ writeOf e before
+    → unreadOf after ≡ drop n before
+written-unread e n before after f w =
+    let k = write-filled e before n after w in
+    rw (k .1, k .0) (round-unread e (drop (eventLength e) before) f)
 
 -- ---- the other way round
 
