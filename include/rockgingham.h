@@ -23,8 +23,8 @@
  * It prints "refusal 0, hits 256 of 768": in a cache of one block, one of the three references hits.
  *
  * VERSIONS. ROCKGINGHAM_VERSION is raised whenever a declaration of this header changes, or what one means;
- * rockgingham_version() returns the version of the library. The library exports setup, apply and feed, the only calls that make
- * a record, under names that carry the version. So a program that calls one of them and was compiled with another version's
+ * rockgingham_version() returns the version of the library. The library exports setup, apply and feed, the calls that can set a
+ * tracker up, under names that carry the version. So a program that calls one of them and was compiled with another version's
  * header does not link. Structs and the order of words may differ from version to version: rebuild everything that includes
  * this header together. Do not keep a record over a change of version; set up anew. A record that was saved by a version with
  * fewer words, and is lent with those, is refused 2.
@@ -40,7 +40,8 @@
  *   - each length is the true number of entries that may be read (and written, unless the pointer is to const): 64-bit words of
  *     a record, entries of a table, bytes of a buffer;
  *   - nothing that a call may write overlaps anything else that is passed to the same call;
- *   - while a call runs, no other thread writes to what was passed to it, or reads what the call may write.
+ *   - while a call runs, no other thread writes to what was passed to it, or reads what the call may write;
+ *   - for rockgingham_plot, the processor rounds to nearest, as it does unless a program asks for something else (fesetround).
  * Everything else is judged by the functions themselves. A damaged record or table never leads outside memory or into an
  * endless loop: each call still returns what docs/RULES.md prescribes for what it was handed.
  *
@@ -93,8 +94,8 @@ enum rockgingham_refusal {
 /*
  * The record: what a tracker holds beside its tables, as 64-bit words in this order. It is lent with its number of words, as a
  * table is with its entries. It may have more words than ROCKGINGHAM_RECORD_WORDS; those are never read or written. If it has
- * fewer, it cannot be judged: every call but setup refuses it 2 before all else, and setup refuses it 2 after 1. Any words are
- * accepted as a record and judged; a record that is torn is refused 3. Only setup, restart, refer, apply and feed change it.
+ * fewer, it cannot be judged: every call but setup refuses it 2 before all else, and setup refuses it 2 after 1. The words may
+ * hold anything: the calls that use them as a record refuse a torn one 3. Only setup, restart, refer, apply and feed change it.
  */
 enum rockgingham_word {
     ROCKGINGHAM_WORD_LIMIT,      /* the five settings, after defaults */
@@ -109,7 +110,7 @@ enum rockgingham_word {
     ROCKGINGHAM_RECORD_WORDS     /* how many words a record has */
 };
 
-/* The starting threshold at which every reference is sampled. */
+/* The starting threshold at which every reference is sampled, until the threshold falls. */
 #define ROCKGINGHAM_FULL_RATE 16777216
 
 enum rockgingham_hash_kind {
@@ -184,8 +185,9 @@ struct rockgingham_answer rockgingham_refer(uint64_t *record, size_t record_word
 /*
  * The shape that the caller believes the curve to have: buckets and width after defaults, as they stand in the record after the
  * setup that the caller knows of. Keep it with the points that were planned with it, and pass it with each: if the tracker has
- * meanwhile been set up with other buckets or another width, the point is refused 5, whatever its number. A tracker that was set
- * up anew with the same buckets and width cannot be told from the old one: its points are answered.
+ * meanwhile been set up with other buckets or another width, the point is refused 5, whatever its number; only 2 and 3, for
+ * words or tables that are too few and for a torn record, come before that. A tracker that was set up anew with the same buckets
+ * and width cannot be told from the old one: its points are not refused 5.
  */
 struct rockgingham_shape {
     uint64_t buckets;
@@ -261,7 +263,7 @@ struct rockgingham_applied rockgingham_apply(uint64_t *record, size_t record_wor
 struct rockgingham_fed {
     uint64_t refusal;
     uint64_t taken;      /* how many bytes were taken, all of them whole events; given with a refusal too */
-    uint64_t incomplete; /* 1 if the bytes after those taken are the beginning of an event, otherwise 0 */
+    uint64_t incomplete; /* 1 if the call was accepted and the bytes after those taken are the beginning of an event, else 0 */
 };
 
 /*

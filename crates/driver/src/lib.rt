@@ -41,7 +41,7 @@ ghost use Rattle.driver.specs.Calls.{version, heldBefore, heldAfter, set
 ghost use Rattle.rules.specs.Events.{Fits};
 ghost use Rattle.driver.specs.Calls.{hashIn, setupIn, restartIn, referIn, pointIn, plotIn, applyIn, feedIn, readIn, writeIn};
 
-// The version of this interface. It is part of the exported names of setup, apply and feed: the calls that make a record.
+// The version of this interface. It is part of the exported names of setup, apply and feed: the calls that can set a tracker up.
 const VERSION: u64 = 1;
 
 #[no_mangle]

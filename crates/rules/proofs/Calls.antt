@@ -223,7 +223,7 @@ within-limit-length hash limit t l g h = cases (ltb limit (length l))
     (λ o. rw o (omega (arith, largest-leaves hash (lowered hash t l) l (omega (arith, ltb-true limit (length l) o)) (omega arith))))
     (λ o. rw o (ltb-false limit (length l) o))
 
--- never more than the limit are live, whatever the list tracker
+-- if at most the limit were live, at most the limit are, whatever the list holds
 pub step-live : (hash : ℕ → ℕ) (limit : ℕ) (f : Profile) (x : ℕ) (s : Sample) → length (s .live) ≤ limit
     → length (step hash limit f x s .left .live) ≤ limit
 step-live hash limit f x s h = cases (under hash (s .threshold) x)
