@@ -2,7 +2,7 @@
 -- behind what was left is the whole fed at once; less than an event is ever left, by `untaken`. Assumes nothing.
 use Prim.Native.Nat.{ℕ, _+_, _-_, _≤_, _<_}
 use mathlib.Core.Path.{_≡_, refl, sym, ap, subst, _∙_}
-use mathlib.Core.Bool.{Bool, false, cond}
+use mathlib.Core.Bool.{cond}
 use mathlib.Core.List.{List, [], _++_}
 use native.Mathlib.Omega.{arith}
 use lib.Dec.{ltb}
@@ -12,21 +12,23 @@ use borrow.Author.Tests.{lt-ltb, le-ltb}
 use Rattle.rules.specs.Lists.{over}
 use Rattle.rules.specs.Settings.{Histogram, Tables}
 use Rattle.rules.specs.Answers.{Result, refused, gives, numberOf}
-use Rattle.rules.specs.Order.{Outcome}
+use Rattle.rules.specs.Order.{Outcome, outcome}
 use Rattle.rules.specs.Layout.{Tracker}
 use Rattle.rules.specs.Calls.{setupOf}
 use Rattle.rules.specs.declared.Record.{Record}
-use Rattle.rules.proofs.Tests.{or-neither}
+use Rattle.rules.proofs.Bounds.{buckets-long}
 use Rattle.rules.proofs.Answers.{number-some, number-refused}
+use Rattle.rules.proofs.Order.{not-both, says-given}
 use Rattle.rules.proofs.Tables.{over-front}
 use Rattle.feed.specs.declared.Ending.{Ending}
 use Rattle.feed.specs.declared.Ending.the-variants as ending
 use Rattle.feed.specs.Feed.{End, whole, inside, Feeding, endingResult, feedOf}
 use Rattle.feed.proofs.Laws.{feed-none}
 use Rattle.feed.proofs.Pieces.{Untaken, untaken, taken-within, pieces}
-use Rattle.text.specs.Text.{refusedLine, curveText, placed, frontOr, curveIn, refusedIn}
+use Rattle.text.specs.Text.{refusedLine, curveText, curveOrder, curveOf, longestCurve, longestRefused, curveIn, refusedIn}
+use Rattle.text.proofs.Curves.{in-filled, in-unfilled}
 use Rattle.curve.specs.declared.Done.{Done}
-use Rattle.curve.specs.Program.{firstSettings, endText, textFrom, textAfter, textOver, Stands, Prints, Telling, Reached, Follows}
+use Rattle.curve.specs.Program.{firstSettings, orRefused, endText, textFrom, textAfter, textOver, Stands, Prints, Telling, Reached, Follows}
 
 -- ---- what feeding ended with
 
@@ -44,23 +46,40 @@ a-refusal e q h = number-refused (endingResult e) (rw q at h) ∙ ap refused (sy
 
 -- ---- text at the front of the buffer
 
-stands : {lacking : Bool} (text before after : List ℕ) (n : ℕ) → lacking ≡ false → placed n after ≡ frontOr lacking text before → Stands text after n
-stands text before after n room q =
-    let e : placed n after ≡ placed (length text) (over text before) = rw room at q in
-    record {
-      is = ap (λ z. take (z .count) (z .buffer)) e ∙ over-front text before;
-      fits = omega (arith, ap (λ z. z .count) e, ap (λ z. length (z .buffer)) e, length-append text (drop (length text) before));
-    }
+module _ (before : List ℕ) {after : List ℕ} {n : ℕ} where
+  stands : (text : List ℕ) → outcome (gives n) after ≡ outcome (gives (length text)) (over text before) → Stands text after n
+  stands text e =
+      let given : gives n ≡ gives (length text) = ap (λ z. z .result) e in
+      let count : n ≡ length text = cc in
+      let is : after ≡ over text before = ap (λ z. z .left) e in
+      record {
+        is = rw (count, is) (over-front text before);
+        fits = rw (count, is) (omega (arith, length-append text (drop (length text) before)));
+      }
 
-module _ (before after : List ℕ) (n : ℕ) where
-  pub refused-stands : (number place : ℕ) → 53 ≤ length before → placed n after ≡ refusedIn number place before
-      → Stands (refusedLine number place) after n
-  refused-stands number place h = stands (refusedLine number place) before after n (le-ltb (length before) 53 h)
+  module _ (number place : ℕ) where
+    pub refused-stands : outcome (gives n) after ≡ refusedIn number place before → Stands (refusedLine number place) after n
+    unfolding refusedIn
+    refused-stands e = stands (refusedLine number place) (in-filled [] longestRefused (refusedLine number place) before e .1)
 
-  pub curve-stands : (kept : Record) (g : Histogram) → 65536 ≤ length before → length (g .counts) ≤ 1026 → placed n after ≡ curveIn kept g before
-      → Stands (curveText kept g) after n
-  curve-stands kept g h few =
-      stands (curveText kept g) before after n (or-neither (le-ltb (length before) 65536 h) (le-ltb 1026 (length (g .counts)) few))
+    -- a line for a refused event finds room
+    pub refusal-fits : longestRefused ≤ length before → outcome (refused n) after ≡ refusedIn number place before → ⊥
+    unfolding refusedIn
+    refusal-fits h e = not-both (in-unfilled [] longestRefused (refusedLine number place) before n (λ w. h) e .0) refl
+
+  module _ (kept : Record) (g : Histogram) where
+    pub curve-stands : (place : ℕ) → outcome (gives n) after ≡ curveIn kept g before → Stands (orRefused (curveOf kept g) place) after n
+    unfolding curveOf curveIn
+    curve-stands place e =
+        let filled = in-filled (curveOrder kept g) (longestCurve (kept .settings .buckets)) (curveText kept g) before e in
+        rw (says-given (curveOrder kept g) (curveText kept g) (filled .0)) (stands (curveText kept g) (filled .1))
+
+    -- 1,026 counts are those of at most 1,024 buckets, and their longest curve has fewer than 65,536 bytes
+    pub curve-refused : length (g .counts) ≤ 1026 → 65536 ≤ length before → outcome (refused n) after ≡ curveIn kept g before
+        → curveOf kept g ≡ refused n
+    unfolding curveOf curveIn
+    curve-refused few h e = in-unfilled (curveOrder kept g) (longestCurve (kept .settings .buckets)) (curveText kept g) before (curveText kept g)
+        (λ w. omega (arith, buckets-long (kept .settings) g (w .1 .0) .counts-long)) e .0
 
 -- ---- between reads
 
@@ -95,13 +114,14 @@ module _ (first : Tracker) (place : ℕ) (s : Tracker) (rest : List ℕ) (w : Fo
   follows-short = short (w .end) ended
 
   at-end : (e : End) → Untaken (gives e) (length (w .reached .input)) place
-      → endText (gives e) place s ≡ cond (ltb 0 (length rest)) (refusedLine 7 place) (curveText (s .kept) (s .tables .histogram))
+      → endText (gives e) place s ≡ cond (ltb 0 (length rest)) (refusedLine 7 place) (orRefused (curveOf (s .kept) (s .tables .histogram)) place)
   at-end whole u = rw (le-ltb 0 (length rest) (omega (arith, rest-length)))
   at-end inside u = rw (lt-ltb 0 (length rest) (omega (arith, rest-length)))
 
   -- at the end of the input
   pub follows-end : (l : ℕ) → length rest ≡ l → {buffer : List ℕ} {n : ℕ}
-      → Stands (cond (ltb 0 l) (refusedLine 7 place) (curveText (s .kept) (s .tables .histogram))) buffer n → Prints (textFrom first) buffer n
+      → Stands (cond (ltb 0 l) (refusedLine 7 place) (orRefused (curveOf (s .kept) (s .tables .histogram)) place)) buffer n
+      → Prints (textFrom first) buffer n
   follows-end l e a = record {
     input = w .reached .input;
     stands = record { is = a .is ∙ rw (← e) (sym (at-end (w .end) ended) ∙ rw (w .reached .is)); fits = a .fits };

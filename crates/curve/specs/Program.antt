@@ -9,7 +9,7 @@ use Rattle.rules.specs.Settings.{Tables}
 use Rattle.rules.specs.Answers.{Result, refused, gives}
 use Rattle.rules.specs.Layout.{Tracker, tablesOf}
 use Rattle.rules.specs.Calls.{setupOf}
-use Rattle.text.specs.Text.{refusedLine, curveText}
+use Rattle.text.specs.Text.{refusedLine, curveOf}
 use Rattle.feed.specs.declared.Fed.{Fed}
 use Rattle.feed.specs.Feed.{End, whole, inside, endingResult, feedOf}
 use Rattle.curve.specs.declared.Came.{Came}
@@ -28,11 +28,16 @@ firstSettings = record { limit = 0; start = 0; width = 0; buckets = 0; hashing =
 abbrev pub firstTables : Tables
 firstTables = tablesOf (replicate 1024 0) (replicate 1026 0) (replicate 1026 0)
 
+-- the text of a curve; a curve that is refused is told as an event at this place would be
+abbrev pub orRefused : Result (List ℕ) → (place : ℕ) → List ℕ
+orRefused (refused n) place = refusedLine n place
+orRefused (gives text) place = text
+
 -- at the end of the input an incomplete event is refused 7; places are counted from the start of the input
 abbrev pub endText : Result End → (place : ℕ) → Tracker → List ℕ
 endText (refused n) place s = refusedLine n place
 endText (gives inside) place s = refusedLine 7 place
-endText (gives whole) place s = curveText (s .kept) (s .tables .histogram)
+endText (gives whole) place s = orRefused (curveOf (s .kept) (s .tables .histogram)) place
 
 -- what is printed for an input, starting from a state
 abbrev pub textFrom : Tracker → List ℕ → List ℕ

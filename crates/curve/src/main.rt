@@ -9,6 +9,7 @@ use rules::Hashing;
 use rules::Record;
 use rules::Settings;
 use rules::Started;
+use rules::Written;
 ghost use mathlib.Core.Path.{_≡_};
 ghost use mathlib.Core.Bool.{cond};
 ghost use Prim.Native.Nat.{_+_, _-_, _≤_, _<_};
@@ -16,9 +17,9 @@ ghost use lib.Dec.{ltb};
 ghost use lib.ListN.{length, take, drop};
 ghost use Rattle.rules.specs.Answers.{numberOf};
 ghost use Rattle.rules.specs.Layout.{tablesBefore, trackerBefore, bucketsBefore, tablesAfter};
-ghost use Rattle.text.specs.Text.{refusedLine, curveText};
+ghost use Rattle.text.specs.Text.{refusedLine, longestRefused, curveOf};
 ghost use Rattle.feed.specs.Feed.{endingResult};
-ghost use Rattle.curve.specs.Program.{firstSettings, textFrom, textOver, programOf};
+ghost use Rattle.curve.specs.Program.{firstSettings, orRefused, textFrom, textOver, programOf};
 ghost use Rattle.curve.specs.Program.{Fitting, Stands, Telling, Ready, AfterFed, AfterBytes, AfterRead};
 
 // ---- the input, read in pieces
@@ -96,6 +97,34 @@ fn to_front(buffer: &mut [u8], from: usize, end: usize) -> usize
     count
 }
 
+// Writes the line for a refused event and returns its length.
+fn put_refusal(out: &mut [u8], number: u64, place: u64) -> usize
+    requires { ⌜ longestRefused ≤ length (now out) ⌝ }
+    ensures { λ r. ⌜ Stands (refusedLine number place) (now (out .exit)) r ⌝ }
+{
+    match text::put_refused_line(out, number, place) {
+        Written::Filled(count) => count,
+        Written::Refused(_) => 0,
+    }
+}
+
+// Writes the curve and returns its length; if the curve is refused, the line for that.
+fn put_curve_or_refusal(
+    out: &mut [u8],
+    kept: Record,
+    place: u64,
+    counts: &[u64],
+    thresholds: &[u32],
+) -> usize
+    requires { ⌜ (length (now counts) ≤ 1026) × (65536 ≤ length (now out)) ⌝ }
+    ensures { λ r. ⌜ Stands (orRefused (curveOf kept (bucketsBefore counts thresholds)) place) (now (out .exit)) r ⌝ }
+{
+    match text::put_curve(out, kept, counts, thresholds) {
+        Written::Filled(count) => count,
+        Written::Refused(why) => put_refusal(out, judge::number_of(why), place),
+    }
+}
+
 // Writes what is printed at the end of the input. Bytes left over are an incomplete event.
 fn put_end(
     out: &mut [u8],
@@ -106,12 +135,13 @@ fn put_end(
     thresholds: &[u32],
 ) -> usize
     requires { ⌜ (length (now counts) ≤ 1026) × (65536 ≤ length (now out)) ⌝ }
-    ensures { λ r. ⌜ Stands (cond (ltb 0 left) (refusedLine 7 place) (curveText kept (bucketsBefore counts thresholds))) (now (out .exit)) r ⌝ }
+    ensures { λ r. ⌜ Stands
+        (cond (ltb 0 left) (refusedLine 7 place) (orRefused (curveOf kept (bucketsBefore counts thresholds)) place)) (now (out .exit)) r ⌝ }
 {
     if 0 < left {
-        return text::put_refused_line(out, 7, place);
+        return put_refusal(out, 7, place);
     }
-    text::put_curve(out, kept, counts, thresholds)
+    put_curve_or_refusal(out, kept, place, counts, thresholds)
 }
 
 // The number of the refusal that stopped feeding, or 0 if there was none.
@@ -137,7 +167,7 @@ fn after_fed(p: Pause, fed: Fed, end: usize, buffer: &mut [u8]) -> Next
     let place = p.place + taken as u64;
     let reach = p.reach - taken as u64;
     if 0 < number {
-        return Next::Over(Done::Text(text::put_refused_line(buffer, number, place)));
+        return Next::Over(Done::Text(put_refusal(buffer, number, place)));
     }
     let left = to_front(buffer, taken, end);
     Next::On(Pause {
@@ -245,9 +275,7 @@ fn run(buffer: &mut [u8], locations: &mut [u64], counts: &mut [u64], thresholds:
 {
     match setup::setup(first_settings(), locations, counts, thresholds) {
         Started::Ready(kept) => follow(kept, buffer, locations, counts, thresholds),
-        Started::Refused(why) => {
-            Done::Text(text::put_refused_line(buffer, judge::number_of(why), 0))
-        }
+        Started::Refused(why) => { Done::Text(put_refusal(buffer, judge::number_of(why), 0)) }
     }
 }
 

@@ -2,25 +2,17 @@
 -- (`adds-then`); that a number's digits are its decimal goes by induction on how many there are. Assumes nothing.
 use Prim.Native.Nat.{ℕ, zero, suc, _+_, _-_, _/_, _%_, _^_, _≤_, _<_}
 use mathlib.Core.Path.{_≡_, refl, sym, ap, _∙_}
-use mathlib.Core.Bool.{Bool, true, false, _||_}
 use mathlib.Core.List.{List, [], _∷_, _++_, append-assoc, append-nil}
 use native.Mathlib.Nat.{not-suc-le-zero, add-zero, pow-suc, pow-le-pow-right}
 use native.Mathlib.Omega.{arith}
-use lib.Dec.{ltb, leb}
+use lib.Dec.{leb}
 use lib.ListN.{length, take, drop, take-append-drop, length-append}
 use lib.Seq.{paste, take-paste, drop-paste, take-all, drop-drop, length-paste}
-use borrow.Author.Tests.{lt-ltb, le-ltb, ltb-false, leb-true, leb-false}
-use Rattle.rules.specs.declared.Record.{Record}
-use Rattle.rules.specs.declared.Point.{Point}
+use borrow.Author.Tests.{lt-ltb, le-ltb, leb-true, leb-false}
 use Rattle.rules.specs.Lists.{over}
-use Rattle.rules.specs.Settings.{Histogram}
-use Rattle.rules.specs.Answers.{gives}
-use Rattle.rules.specs.Calls.{ownShape, ownPoint}
-use Rattle.rules.proofs.Tests.{cases, neither}
-use Rattle.rules.proofs.Bounds.{buckets-long}
-use Rattle.rules.proofs.Calls.{point-accepted}
+use Rattle.rules.proofs.Tests.{cases}
 use Rattle.io.specs.Digits.{digits, Fewest}
-use Rattle.text.specs.Text.{decimalMost, decimal, Adds, placed, frontOr}
+use Rattle.text.specs.Text.{decimalMost, decimal, Adds}
 
 -- ---- one text behind another
 
@@ -48,33 +40,10 @@ pub adds-none : (out : List ℕ) (at : ℕ) → at ≤ length out → Adds out a
 adds-none out at h = record { front = sym (append-nil (take at out)); behind = refl; ends = sym (add-zero at); fits = h }
 
 -- a text behind nothing stands over the front
-over-all : {before text after : List ℕ} {n : ℕ} → Adds before 0 text after n → after ≡ over text before
+pub over-all : {before text after : List ℕ} {n : ℕ} → Adds before 0 text after n → after ≡ over text before
 over-all {before} {text} {after} {n} a =
     let count : n ≡ length text = omega (arith, a .ends) in
     sym (take-append-drop n after) ∙ ap (λ l. l ++ drop n after) (a .front) ∙ ap (λ l. text ++ l) (a .behind ∙ ap (λ m. drop m before) count)
-
-pub adds-front : {before text after : List ℕ} {n : ℕ} {lacking : Bool} → lacking ≡ false → Adds before 0 text after n
-    → placed n after ≡ frontOr lacking text before
-adds-front {before} {text} {after} {n} room a =
-    let count : n ≡ length text = omega (arith, a .ends) in
-    rw room (λ i. placed (count i) (over-all a i))
-
--- where room is lacking
-pub front-none : (text before : List ℕ) {lacking : Bool} → lacking ≡ true → placed 0 before ≡ frontOr lacking text before
-front-none text before lack = rw lack
-
--- neither too short a buffer nor too many counts
-pub room : (buffer counts : List ℕ) → ltb (length buffer) 65536 || ltb 1026 (length counts) ≡ false → (65536 ≤ length buffer) × (length counts ≤ 1026)
-room buffer counts e =
-    let both = neither {a = ltb (length buffer) 65536} {b = ltb 1026 (length counts)} e in
-    (ltb-false (length buffer) 65536 (both .0), ltb-false 1026 (length counts) (both .1))
-
--- ---- points
-
--- a point that is answered has tables long enough
-pub point-needed : (kept : Record) (n : ℕ) (g : Histogram) {p : Point} → ownPoint kept n g ≡ gives p
-    → kept .settings .buckets + 2 ≤ length (g .counts)
-point-needed kept n g e = buckets-long (kept .settings) g (point-accepted kept (ownShape kept) n g e .buckets-long) .counts-long
 
 -- ---- numbers
 

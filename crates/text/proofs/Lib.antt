@@ -1,2 +1,4 @@
 pub mod Laws
+pub mod Curves
+pub mod OfRun
 pub mod Unique

@@ -3,20 +3,24 @@ use Prim.Native.Nat.{ℕ}
 use mathlib.Core.Path.{_≡_, sym, ap, _∙_}
 use mathlib.Core.List.{List}
 use Rattle.rules.specs.declared.Record.{Record}
+use Rattle.rules.specs.declared.Written.{Written}
 use Rattle.rules.specs.Settings.{Histogram}
-use Rattle.text.specs.Text.{Placed, placed, curveIn, refusedIn}
+use Rattle.rules.specs.Answers.{writtenResult}
+use Rattle.rules.specs.Order.{Outcome, outcome}
+use Rattle.rules.proofs.Answers.{written-injective}
+use Rattle.text.specs.Text.{curveIn, refusedIn}
 
--- what is left coincides where it is one of these
-abbrev PlacedOnce : Placed → Type 0
-PlacedOnce x = (m n : ℕ) (u v : List ℕ) → placed m u ≡ x → placed n v ≡ x → (m ≡ n) × (u ≡ v)
+-- any two answers, each with its buffer, coincide if they are this outcome
+abbrev WrittenOnce : Outcome ℕ (List ℕ) → Type 0
+WrittenOnce x = (a b : Written) (u v : List ℕ) → outcome (writtenResult a) u ≡ x → outcome (writtenResult b) v ≡ x → (a ≡ b) × (u ≡ v)
 
-placed-once : (x : Placed) → PlacedOnce x
-placed-once x m n u v p q =
-    let e = p ∙ sym q in
-    (ap (λ z. z .count) e, ap (λ z. z .buffer) e)
+written-once : (x : Outcome ℕ (List ℕ)) → WrittenOnce x
+written-once x a b u v p q =
+    let same = p ∙ sym q in
+    (written-injective a b (ap (λ z. z .result) same), ap (λ z. z .left) same)
 
-pub put-curve-once : (kept : Record) (g : Histogram) (buffer : List ℕ) → PlacedOnce (curveIn kept g buffer)
-put-curve-once kept g buffer = placed-once _
+pub put-curve-once : (kept : Record) (g : Histogram) (buffer : List ℕ) → WrittenOnce (curveIn kept g buffer)
+put-curve-once kept g buffer = written-once _
 
-pub put-refused-line-once : (number place : ℕ) (buffer : List ℕ) → PlacedOnce (refusedIn number place buffer)
-put-refused-line-once number place buffer = placed-once _
+pub put-refused-line-once : (number place : ℕ) (buffer : List ℕ) → WrittenOnce (refusedIn number place buffer)
+put-refused-line-once number place buffer = written-once _

@@ -1,15 +1,20 @@
 -- Document 01, "The curve program": what is printed, as bytes. Assumes nothing.
-use Prim.Native.Nat.{ℕ, zero, suc, _+_, _/_, _%_, _≤_}
+use Prim.Native.Nat.{ℕ, zero, suc, _+_, _*_, _/_, _%_, _≤_}
 use mathlib.Core.Path.{_≡_}
-use mathlib.Core.Bool.{Bool, cond, _||_}
+use mathlib.Core.Bool.{Bool, cond}
 use mathlib.Core.List.{List, [], _∷_, _++_}
-use lib.Dec.{ltb}
+use lib.Dec.{eqb, ltb}
 use lib.ListN.{length, take, drop}
 use Rattle.rules.specs.declared.Record.{Record}
 use Rattle.rules.specs.declared.Point.{Point}
+use Rattle.rules.specs.declared.Refusal.the-variants as refusal
 use Rattle.rules.specs.Lists.{over}
 use Rattle.rules.specs.Settings.{Histogram}
-use Rattle.rules.specs.Answers.{Result, refused, gives}
+use Rattle.rules.specs.Curve.{totalOf, curvePoint}
+use Rattle.rules.specs.Answers.{Result, gives}
+use Rattle.rules.specs.Order.{Outcome, Judged, _when_, says, byOrder}
+use Rattle.rules.specs.Layout.{profileOf}
+use Rattle.rules.specs.Conditions.{bucketsTooShort, tornRecord, tornReport}
 use Rattle.rules.specs.Calls.{ownPoint}
 
 -- ---- numbers
@@ -83,23 +88,42 @@ refusedLine number place = (refusedWord ++ decimal number) ++ ((atWord ++ decima
 
 -- ---- the curve
 
--- the line of a point, or nothing if the point is refused
-abbrev pub lineOf : Result Point → List ℕ
-lineOf (refused n) = []
-lineOf (gives p) = pointLine p
+-- point k of the curve
+abbrev pub pointOn : Record → (k : ℕ) → Histogram → Point
+pointOn kept k g = curvePoint (profileOf (kept .settings)) (kept .threshold) k g
 
 -- the lines of the points below n
 unfoldable pub linesTo : ℕ → Record → Histogram → List ℕ
 linesTo zero kept g = []
-linesTo (suc n) kept g = linesTo n kept g ++ lineOf (ownPoint kept n g)
+linesTo (suc n) kept g = linesTo n kept g ++ pointLine (pointOn kept n g)
 
--- one line for each point and `end`, or `empty` if point 0 is refused
-abbrev pub pointsOr : Result Point → Record → Histogram → List ℕ
-pointsOr (refused n) kept g = emptyLine
-pointsOr (gives p) kept g = linesTo (kept .settings .buckets + 1) kept g ++ endLine
+-- the total is 0
+abbrev pub noTotal : Record → Histogram → Bool
+noTotal kept g = eqb (totalOf (kept .threshold) (kept .settings .buckets) g) 0
 
+-- the first line; then `empty` if the total is 0, else one line for each point, 0 to B, and `end`
 unfoldable pub curveText : Record → Histogram → List ℕ
-curveText kept g = firstLine kept ++ pointsOr (ownPoint kept 0 g) kept g
+curveText kept g = firstLine kept ++ cond (noTotal kept g) emptyLine (linesTo (kept .settings .buckets + 1) kept g ++ endLine)
+
+-- the curve: 3 for the record, 2, 3 for the buckets; its points have these refusals too
+abbrev pub curveOrder : Record → Histogram → List Judged
+curveOrder kept g =
+    (refusal.Torn when tornRecord kept)
+    ∷ (refusal.Tables when bucketsTooShort (kept .settings) g)
+    ∷ (refusal.Torn when tornReport (kept .numbers .references) (kept .threshold) (kept .settings .buckets) g)
+    ∷ []
+
+-- its text, or the refusal
+unfoldable pub curveOf : Record → Histogram → Result (List ℕ)
+curveOf kept g = says (curveOrder kept g) (curveText kept g)
+
+-- point k, under the record's own shape, is not refused
+abbrev pub Given : Record → (k : ℕ) → Histogram → Type 0
+Given kept k g = ownPoint kept k g ≡ gives (pointOn kept k g)
+
+-- the curve is refused, or it is known whether its total is 0
+pub record Judges (kept : Record) (g : Histogram) (said : Result Bool) : Type 0 where
+  pub is : says (curveOrder kept g) (noTotal kept g) ≡ said
 
 -- ---- text in a buffer
 
@@ -110,22 +134,31 @@ pub record Adds (before : List ℕ) (at : ℕ) (text after : List ℕ) (end : �
   pub ends : end ≡ at + length text
   pub fits : end ≤ length after
 
--- what a call returns, and the buffer as it leaves it
-pub record Placed : Type 0 where
-  pub count : ℕ
-  pub buffer : List ℕ
+-- no first line is longer, numbers having at most 20 digits
+abbrev pub longestFirst : ℕ
+longestFirst = 118
 
-abbrev pub placed : (count : ℕ) (buffer : List ℕ) → Placed
-placed count buffer = record { count = count; buffer = buffer }
+-- nor any line of a point
+abbrev pub longestPoint : ℕ
+longestPoint = 63
 
--- the text over the front of the buffer, and its length; nothing and 0 if room is lacking
-abbrev pub frontOr : (lacking : Bool) → (text buffer : List ℕ) → Placed
-frontOr lacking text buffer = cond lacking (placed 0 buffer) (placed (length text) (over text buffer))
+-- nor any line of a refused event
+abbrev pub longestRefused : ℕ
+longestRefused = 53
 
--- the longest curve that fits the program's tables, of 1,025 points, has fewer than 65,536 bytes
-abbrev pub curveIn : Record → Histogram → (buffer : List ℕ) → Placed
-curveIn kept g buffer = frontOr (ltb (length buffer) 65536 || ltb 1026 (length (g .counts))) (curveText kept g) buffer
+-- nor any curve with so many buckets: the first line, B + 1 points and `end`
+abbrev pub longestCurve : (buckets : ℕ) → ℕ
+longestCurve buckets = longestFirst + longestPoint * (buckets + 1) + 4
 
--- the longest line of a refused event has 53 bytes
-abbrev pub refusedIn : (number place : ℕ) (buffer : List ℕ) → Placed
-refusedIn number place buffer = frontOr (ltb (length buffer) 53) (refusedLine number place) buffer
+-- a buffer shorter than needed is refused 2, after the refusals of the text itself
+abbrev pub inBuffer : List Judged → (needed : ℕ) → (text buffer : List ℕ) → Outcome ℕ (List ℕ)
+inBuffer order needed text buffer =
+    byOrder (order ++ ((refusal.Tables when ltb (length buffer) needed) ∷ [])) (length text) buffer (over text buffer)
+
+-- the curve over the front of a buffer, and its length
+unfoldable pub curveIn : Record → Histogram → (buffer : List ℕ) → Outcome ℕ (List ℕ)
+curveIn kept g buffer = inBuffer (curveOrder kept g) (longestCurve (kept .settings .buckets)) (curveText kept g) buffer
+
+-- the line for a refused event over the front of a buffer, and its length
+unfoldable pub refusedIn : (number place : ℕ) (buffer : List ℕ) → Outcome ℕ (List ℕ)
+refusedIn number place buffer = inBuffer [] longestRefused (refusedLine number place) buffer

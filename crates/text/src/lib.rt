@@ -2,15 +2,25 @@
 use rules::Point;
 use rules::Pointed;
 use rules::Record;
+use rules::Refusal;
 use rules::Shape;
+use rules::Written;
 ghost use mathlib.Core.Path.{_≡_};
+ghost use mathlib.Core.Bool.{false};
 ghost use mathlib.Core.List.{_++_};
-ghost use Prim.Native.Nat.{_+_, _≤_};
+ghost use Prim.Native.Nat.{_+_, _*_, _≤_};
 ghost use lib.ListN.{length};
-ghost use Rattle.rules.specs.Answers.{pointResult};
-ghost use Rattle.rules.specs.Layout.{bucketsBefore};
+ghost use Rattle.rules.specs.Answers.{gives, pointResult, writtenResult};
+ghost use Rattle.rules.specs.Order.{outcome};
+ghost use Rattle.rules.specs.Layout.{bucketsOf, bucketsBefore};
 ghost use Rattle.rules.specs.Calls.{ownPoint};
-ghost use Rattle.text.specs.Text.{decimal, newline, firstLine, pointLine, lineOf, linesTo, pointsOr, Adds, placed, curveIn, refusedIn};
+ghost use Rattle.text.specs.Text.{decimal, newline, firstLine, pointLine, pointOn, linesTo, Given, Judges, Adds, curveIn, refusedIn};
+ghost use Rattle.text.specs.Text.{longestFirst, longestPoint};
+
+// The most bytes that a first line can have, and that the line of a point can have.
+const LONGEST_FIRST: usize = 118;
+
+const LONGEST_POINT: usize = 63;
 
 // ---- text in a buffer, after its first `at` bytes
 
@@ -59,9 +69,9 @@ fn put_last_two(out: &mut [u8], at: usize, word: &[u8], n: u64, other: &[u8], m:
 
 // The first line: references, sampled references, threshold and live number.
 fn put_first_line(out: &mut [u8], kept: Record) -> usize
-    requires { ⌜ 118 ≤ length (now out) ⌝ }
+    requires { ⌜ longestFirst ≤ length (now out) ⌝ }
     ensures { λ r. ⌜ Adds (now (out .entry)) 0 (firstLine kept) (now (out .exit)) r ⌝ }
-    ensures { λ r. ⌜ r ≤ 118 ⌝ }
+    ensures { λ r. ⌜ r ≤ longestFirst ⌝ }
 {
     let references = put_both(out, 0, b"curve refs ", kept.numbers.references);
     let sampled = put_both(out, references, b" sampled ", kept.numbers.sampled);
@@ -77,9 +87,9 @@ fn put_first_line(out: &mut [u8], kept: Record) -> usize
 
 // The line of a point: size, misses and total.
 fn put_point_line(out: &mut [u8], at: usize, p: Point) -> usize
-    requires { ⌜ at + 63 ≤ length (now out) ⌝ }
+    requires { ⌜ at + longestPoint ≤ length (now out) ⌝ }
     ensures { λ r. ⌜ Adds (now (out .entry)) at (pointLine p) (now (out .exit)) r ⌝ }
-    ensures { λ r. ⌜ r ≤ at + 63 ⌝ }
+    ensures { λ r. ⌜ r ≤ at + longestPoint ⌝ }
 {
     let size = put_number(out, at, p.size);
     put_last_two(out, size, b" ", p.misses, b" ", p.total)
@@ -98,7 +108,7 @@ fn point_at(kept: Record, number: u64, counts: &[u64], thresholds: &[u32]) -> Po
     points::point(kept, shape, number, counts, thresholds)
 }
 
-// The line of a point, or nothing if the point is refused.
+// The line of a point that is not refused.
 fn put_point(
     out: &mut [u8],
     at: usize,
@@ -107,9 +117,10 @@ fn put_point(
     counts: &[u64],
     thresholds: &[u32],
 ) -> usize
-    requires { ⌜ at + 63 ≤ length (now out) ⌝ }
-    ensures { λ r. ⌜ Adds (now (out .entry)) at (lineOf (ownPoint kept number (bucketsBefore counts thresholds))) (now (out .exit)) r ⌝ }
-    ensures { λ r. ⌜ r ≤ at + 63 ⌝ }
+    requires { ⌜ at + longestPoint ≤ length (now out) ⌝ }
+    requires { ⌜ Given kept number (bucketsOf (now counts) (now thresholds)) ⌝ }
+    ensures { λ r. ⌜ Adds (now (out .entry)) at (pointLine (pointOn kept number (bucketsBefore counts thresholds))) (now (out .exit)) r ⌝ }
+    ensures { λ r. ⌜ r ≤ at + longestPoint ⌝ }
 {
     match point_at(kept, number, counts, thresholds) {
         Pointed::At(p) => put_point_line(out, at, p),
@@ -119,9 +130,10 @@ fn put_point(
 
 // One line for each point, 0 to B.
 fn put_points(out: &mut [u8], at: usize, kept: Record, counts: &[u64], thresholds: &[u32]) -> usize
-    requires { ⌜ (at ≤ 118) × (kept .settings .buckets ≤ 1024) × (65536 ≤ length (now out)) ⌝ }
+    requires { ⌜ at + longestPoint * (kept .settings .buckets + 1) ≤ length (now out) ⌝ }
+    requires { ⌜ Judges kept (bucketsOf (now counts) (now thresholds)) (gives false) ⌝ }
     ensures { λ r. ⌜ Adds (now (out .entry)) at (linesTo (kept .settings .buckets + 1) kept (bucketsBefore counts thresholds)) (now (out .exit)) r ⌝ }
-    ensures { λ r. ⌜ r ≤ 65000 ⌝ }
+    ensures { λ r. ⌜ r ≤ at + longestPoint * (kept .settings .buckets + 1) ⌝ }
 {
     let last = kept.settings.buckets;
     let mut end = at;
@@ -133,42 +145,52 @@ fn put_points(out: &mut [u8], at: usize, kept: Record, counts: &[u64], threshold
     end
 }
 
-// The points and `end`, or `empty`.
-fn put_body(out: &mut [u8], at: usize, kept: Record, counts: &[u64], thresholds: &[u32]) -> usize
-    requires { ⌜ (at ≤ 118) × (length (now counts) ≤ 1026) × (65536 ≤ length (now out)) ⌝ }
-    ensures { λ r. ⌜ Adds (now (out .entry)) at
-        (pointsOr (ownPoint kept 0 (bucketsBefore counts thresholds)) kept (bucketsBefore counts thresholds)) (now (out .exit)) r ⌝ }
-{
-    match point_at(kept, 0, counts, thresholds) {
-        Pointed::At(_) => {
-            let points = put_points(out, at, kept, counts, thresholds);
-            put(out, points, b"end\n")
-        }
-        Pointed::Refused(_) => put(out, at, b"empty\n"),
-    }
-}
-
 // ---- at the front of a buffer
 
-// Writes the curve and returns its length. Writes nothing and returns 0 if the buffer has fewer than 65,536 bytes, or if there are more
-// than 1,026 counts.
-pub fn put_curve(out: &mut [u8], kept: Record, counts: &[u64], thresholds: &[u32]) -> usize
-    ensures { λ r. ⌜ placed r (now (out .exit)) ≡ curveIn kept (bucketsBefore counts thresholds) (now (out .entry)) ⌝ }
+// Writes a curve that is not refused, once it is known whether its total is 0.
+fn put_given(
+    out: &mut [u8],
+    empty: bool,
+    kept: Record,
+    counts: &[u64],
+    thresholds: &[u32],
+) -> Written
+    requires { ⌜ Judges kept (bucketsOf (now counts) (now thresholds)) (gives empty) ⌝ }
+    ensures { λ r. ⌜ outcome (writtenResult r) (now (out .exit)) ≡ curveIn kept (bucketsBefore counts thresholds) (now (out .entry)) ⌝ }
 {
-    if (out.len() < 65536) | (1026 < counts.len()) {
-        return 0;
+    let points = kept.settings.buckets as usize + 1;
+    if out.len() < LONGEST_FIRST + LONGEST_POINT * points + 4 {
+        return Written::Refused(Refusal::Tables);
     }
     let first = put_first_line(out, kept);
-    put_body(out, first, kept, counts, thresholds)
+    if empty {
+        return Written::Filled(put(out, first, b"empty\n"));
+    }
+    let last = put_points(out, first, kept, counts, thresholds);
+    Written::Filled(put(out, last, b"end\n"))
+}
+
+// Writes the curve and returns its length. A curve that is refused, or a buffer too short for the longest curve with so many
+// buckets, changes nothing.
+pub fn put_curve(out: &mut [u8], kept: Record, counts: &[u64], thresholds: &[u32]) -> Written
+    ensures { λ r. ⌜ outcome (writtenResult r) (now (out .exit)) ≡ curveIn kept (bucketsBefore counts thresholds) (now (out .entry)) ⌝ }
+{
+    match point_at(kept, 0, counts, thresholds) {
+        Pointed::At(_) => put_given(out, false, kept, counts, thresholds),
+        Pointed::Refused(why) => match why {
+            Refusal::Empty => put_given(out, true, kept, counts, thresholds),
+            _ => Written::Refused(why),
+        },
+    }
 }
 
 // Writes the line for a refused event, with the refusal's number and the place of the event's first byte, and returns its length.
-// Writes nothing and returns 0 if the buffer has fewer than 53 bytes.
-pub fn put_refused_line(out: &mut [u8], number: u64, place: u64) -> usize
-    ensures { λ r. ⌜ placed r (now (out .exit)) ≡ refusedIn number place (now (out .entry)) ⌝ }
+// A buffer of fewer than 53 bytes is refused.
+pub fn put_refused_line(out: &mut [u8], number: u64, place: u64) -> Written
+    ensures { λ r. ⌜ outcome (writtenResult r) (now (out .exit)) ≡ refusedIn number place (now (out .entry)) ⌝ }
 {
     if out.len() < 53 {
-        return 0;
+        return Written::Refused(Refusal::Tables);
     }
-    put_last_two(out, 0, b"refused ", number, b" at ", place)
+    Written::Filled(put_last_two(out, 0, b"refused ", number, b" at ", place))
 }

@@ -2,7 +2,7 @@
 use native.Mathlib.Omega.{arith}
 use lib.ListN.{take, length-drop}
 use lib.Seq.{length-take-le}
-use Rattle.curve.proofs.Input.{no-refusal, a-refusal, refused-stands, reached-follows, reached-refused, follows-short}
+use Rattle.curve.proofs.Input.{no-refusal, a-refusal, reached-follows, reached-refused, follows-short}
 use borrow.Author.Needs.{needs}
 use Rattle.curve.proofs.after_fed.Statement.{statement}
 use Rattle.curve.proofs.after_fed.Tie as tie
@@ -19,17 +19,17 @@ add-place c = search needs
 sub-reach : tie.Need-sub-reach
 sub-reach c = search needs
 
-put-refused-line-requires : tie.Need-put-refused-line-requires
-put-refused-line-requires c κs = tt
+put-refusal-requires : tie.Need-put-refusal-requires
+put-refusal-requires c κs = search needs
 
 same-length : tie.Need-same-length
-same-length c = c .before .before .put-refused-line .kept .0
+same-length c = c .before .before .put-refusal .kept .0
 
 returns : tie.Need-returns
 returns c = λ first t w.
     let d = c .before .before .before .before .before .before .before in
     reached-refused w (a-refusal (start d .args .fed .ending) (d .refusal-in .ensures) (c .before .before .before .before .if1 .taken))
-    (refused-stands (start d .args .buffer .now) _ _ _ _ (omega (arith, start d .pre)) (c .before .before .put-refused-line .ensures))
+    (c .before .before .put-refusal .ensures)
 
 to-front-requires : tie.Need-to-front-requires
 to-front-requires c κs = search needs
@@ -61,7 +61,7 @@ after-fed-spec =
     refusal-in-requires
     add-place
     sub-reach
-    put-refused-line-requires
+    put-refusal-requires
     same-length
     returns
     to-front-requires

@@ -1,7 +1,7 @@
 -- Setup is accepted, and the rest is `follow`'s; or it is refused, and its line is the text.
 use mathlib.Core.Path.{refl, _∙_}
 use native.Mathlib.Omega.{arith}
-use Rattle.curve.proofs.Input.{refused-stands, telling-started, telling-refused}
+use Rattle.curve.proofs.Input.{telling-started, telling-refused}
 use borrow.Author.Needs.{needs}
 use Rattle.curve.proofs.run.Statement.{statement}
 use Rattle.curve.proofs.run.Tie as tie
@@ -39,8 +39,8 @@ enum-known-why c = search needs
 number-of-requires : tie.Need-number-of-requires
 number-of-requires c κs = tt
 
-put-refused-line-requires : tie.Need-put-refused-line-requires
-put-refused-line-requires c κs = tt
+put-refusal-requires : tie.Need-put-refusal-requires
+put-refusal-requires c κs = search needs
 
 same-length : tie.Need-same-length
 same-length c = was-followed c .follow .kept .1 .0
@@ -64,7 +64,7 @@ returns c =
     (rw (ready .kept .given .1, first .ensures) at (d .setup .ensures)) (done .follow .ensures)
 
 same-length-5 : tie.Need-same-length-5
-same-length-5 c = c .before .before .put-refused-line .kept .0
+same-length-5 c = c .before .before .put-refusal .kept .0
 
 same-length-6 : tie.Need-same-length-6
 same-length-6 c = refl
@@ -82,8 +82,7 @@ returns-2 c =
     let first = d .before .before .before .before .first-settings in
     let number = c .before .before .before .number-of .ensures in
     telling-refused _ _ _ (rw (refused .why .given .1, first .ensures) at (d .setup .ensures))
-    (rw number at
-    (refused-stands (start d .args .buffer .now) _ _ _ _ (omega (arith, start d .pre .0)) (c .before .before .put-refused-line .ensures)))
+    (rw number at (c .before .before .put-refusal .ensures))
 
 pub run-spec : {M : Type 1} → statement M
 run-spec =
@@ -95,7 +94,7 @@ run-spec =
     follow-requires
     enum-known-why
     number-of-requires
-    put-refused-line-requires
+    put-refusal-requires
     same-length
     same-length-2
     same-length-3

@@ -1,10 +1,14 @@
--- By whether the point is answered: then its line is put, else nothing.
-use mathlib.Core.Path.{sym, ap, _∙_}
-use Rattle.rules.specs.Answers.{pointResult}
-use Rattle.text.proofs.Laws.{adds-none}
+-- The point is answered, so that its line is put; the other case cannot be.
+use mathlib.Core.Path.{_≡_, sym, ap, _∙_}
+use Rattle.rules.specs.declared.Point.{Point}
+use Rattle.rules.specs.Answers.{gives, pointResult}
+use Rattle.rules.proofs.Order.{not-both}
 use borrow.Author.Needs.{needs}
 use Rattle.text.proofs.put_point.Statement.{statement}
 use Rattle.text.proofs.put_point.Tie as tie
+
+same : {a b : Point} → gives a ≡ gives b → a ≡ b
+same e = cc
 
 point-at-requires : tie.Need-point-at-requires
 point-at-requires c κs = tt
@@ -24,11 +28,14 @@ same-length c = c .before .before .put-point-line .kept .0
 returns : tie.Need-returns
 returns c =
     let told = c .before .before .before .before .before in
-    let answered = sym (told .before .before .point-at .ensures) ∙ ap pointResult (told .p .given .1) in
-    (rw answered (c .before .before .put-point-line .ensures .0), search needs)
+    let asked = told .before .before in
+    let answered = sym (ap pointResult (told .p .given .1)) ∙ asked .point-at .ensures ∙ asked .before .before .before .before .pre .1 in
+    (rw (same answered) at (c .before .before .put-point-line .ensures .0), search needs)
 
 returns-2 : tie.Need-returns-2
-returns-2 c = (rw (sym (c .before .before .point-at .ensures) ∙ ap pointResult (c .enum-told .given .1)) (adds-none _ _ (search needs)), search needs)
+returns-2 c =
+    let asked = c .before .before in
+    absurd (not-both (ap pointResult (c .enum-told .given .1)) (asked .point-at .ensures ∙ asked .before .before .before .before .pre .1))
 
 pub put-point-spec : {M : Type 1} → statement M
 put-point-spec =
