@@ -1,13 +1,11 @@
 -- The input in pieces, each read behind what was left of the one before: what was fed is the input so far. By feed's `pieces`, a piece fed
 -- behind what was left is the whole fed at once; less than an event is ever left, by `untaken`. Assumes nothing.
 use Prim.Native.Nat.{ℕ, _+_, _-_, _≤_, _<_}
-use mathlib.Core.Path.{_≡_, refl, sym, ap, subst, _∙_}
-use mathlib.Core.Bool.{cond}
+use mathlib.Core.Path.{_≡_, refl, sym, ap, _∙_}
 use mathlib.Core.List.{List, [], _++_}
 use native.Mathlib.Omega.{arith}
-use lib.Dec.{ltb}
 use lib.ListN.{length, take, drop, length-append, length-drop}
-use lib.Seq.{drop-append-le, drop-drop, take-add}
+use lib.Seq.{drop-append-le, drop-drop}
 use borrow.Author.Tests.{lt-ltb, le-ltb}
 use Rattle.rules.specs.Lists.{over}
 use Rattle.rules.specs.Settings.{Histogram, Tables}
@@ -27,8 +25,15 @@ use Rattle.feed.proofs.Laws.{feed-none}
 use Rattle.feed.proofs.Pieces.{Untaken, untaken, taken-within, pieces}
 use Rattle.text.specs.Text.{refusedLine, curveText, curveOrder, curveOf, longestCurve, longestRefused, curveIn, refusedIn}
 use Rattle.text.proofs.Curves.{in-filled, in-unfilled}
+use Rattle.curve.specs.declared.Came.{Came}
+use Rattle.curve.specs.declared.Came.the-variants as came
 use Rattle.curve.specs.declared.Done.{Done}
-use Rattle.curve.specs.Program.{firstSettings, orRefused, endText, textFrom, textAfter, textOver, Stands, Prints, Telling, Reached, Follows}
+use Rattle.curve.specs.declared.Done.the-variants as done
+use Rattle.curve.specs.declared.Pause.{Pause}
+use Rattle.curve.specs.declared.Next.{Next}
+use Rattle.curve.specs.declared.Next.the-variants as next
+use Rattle.curve.specs.Program.{firstSettings, firstTables, orRefused, endText, lastText, textFrom, textAfter, textOver, cameOf}
+use Rattle.curve.specs.Program.{Stands, Reached, Follows, Refuses, Ready, Later, AfterRead, OneRead, Prints, Followed, Tells, TellsOver, Printing}
 
 -- ---- what feeding ended with
 
@@ -83,29 +88,29 @@ module _ (before : List ℕ) {after : List ℕ} {n : ℕ} where
 
 -- ---- between reads
 
-pub follows-none : (s : Tracker) → Follows s 0 s []
-follows-none s = record { end = whole; reached = record { input = []; is = feed-none [] s refl; rest-is = refl } }
+pub follows-none : (s : Tracker) → Follows s [] 0 s []
+follows-none s = record { end = whole; reached = record { is = feed-none [] s refl; rest-is = refl } }
 
-pub reached-follows : {first s : Tracker} {place : ℕ} {why : Result End} {rest : List ℕ} → Reached first place why s rest → Ends why
-    → Follows first place s rest
-reached-follows r e = record { end = e .end; reached = rw (e .is) at r }
+module _ {first s : Tracker} {input rest : List ℕ} {place : ℕ} {why : Result End} (r : Reached first input place why s rest) where
+  pub reached-follows : Ends why → Follows first input place s rest
+  reached-follows e = record { end = e .end; reached = rw (e .is) at r }
 
-pub reached-refused : {first s : Tracker} {place m : ℕ} {why : Result End} {rest : List ℕ} → Reached first place why s rest → why ≡ refused m
-    → {buffer : List ℕ} {n : ℕ} → Stands (refusedLine m place) buffer n → Prints (textFrom first) buffer n
-reached-refused r e a = record { input = r .input; stands = record { is = a .is ∙ rw (r .is, e); fits = a .fits } }
+  pub reached-refused : {m : ℕ} → why ≡ refused m → {buffer : List ℕ} {n : ℕ} → Stands (refusedLine m place) buffer n
+      → Refuses first input × Stands (textFrom first input) buffer n
+  reached-refused {m} e a = (record { number = m; is = ap (λ z. z .result) (r .is) ∙ e }, record { is = a .is ∙ rw (r .is, e); fits = a .fits })
 
-module _ (first : Tracker) (place : ℕ) (s : Tracker) (rest : List ℕ) (w : Follows first place s rest) where
-  ended : Untaken (gives (w .end)) (length (w .reached .input)) place
-  ended = rw (w .reached .is) at (untaken (w .reached .input) first)
+module _ {first s : Tracker} {input rest : List ℕ} {place : ℕ} (w : Follows first input place s rest) where
+  ended : Untaken (gives (w .end)) (length input) place
+  ended = rw (w .reached .is) at (untaken input first)
 
-  rest-length : length rest ≡ length (w .reached .input) - place
-  rest-length = ap length (sym (w .reached .rest-is)) ∙ length-drop place (w .reached .input)
+  rest-length : length rest ≡ length input - place
+  rest-length = ap length (sym (w .reached .rest-is)) ∙ length-drop place input
 
-  within : (e : End) → Untaken (gives e) (length (w .reached .input)) place → place ≤ length (w .reached .input)
+  within : (e : End) → Untaken (gives e) (length input) place → place ≤ length input
   within whole u = omega arith
   within inside u = omega arith
 
-  short : (e : End) → Untaken (gives e) (length (w .reached .input)) place → length rest < 18
+  short : (e : End) → Untaken (gives e) (length input) place → length rest < 18
   short whole u = omega (arith, rest-length)
   short inside u = omega (arith, rest-length)
 
@@ -113,49 +118,93 @@ module _ (first : Tracker) (place : ℕ) (s : Tracker) (rest : List ℕ) (w : Fo
   pub follows-short : length rest < 18
   follows-short = short (w .end) ended
 
-  at-end : (e : End) → Untaken (gives e) (length (w .reached .input)) place
-      → endText (gives e) place s ≡ cond (ltb 0 (length rest)) (refusedLine 7 place) (orRefused (curveOf (s .kept) (s .tables .histogram)) place)
+  at-end : (e : End) → Untaken (gives e) (length input) place
+      → endText (gives e) place s ≡ lastText (length rest) place (s .kept) (s .tables .histogram)
   at-end whole u = rw (le-ltb 0 (length rest) (omega (arith, rest-length)))
   at-end inside u = rw (lt-ltb 0 (length rest) (omega (arith, rest-length)))
 
   -- at the end of the input
-  pub follows-end : (l : ℕ) → length rest ≡ l → {buffer : List ℕ} {n : ℕ}
-      → Stands (cond (ltb 0 l) (refusedLine 7 place) (orRefused (curveOf (s .kept) (s .tables .histogram)) place)) buffer n
-      → Prints (textFrom first) buffer n
-  follows-end l e a = record {
-    input = w .reached .input;
-    stands = record { is = a .is ∙ rw (← e) (sym (at-end (w .end) ended) ∙ rw (w .reached .is)); fits = a .fits };
-  }
+  pub follows-end : {l : ℕ} → length rest ≡ l → {buffer : List ℕ} {n : ℕ}
+      → Stands (lastText l place (s .kept) (s .tables .histogram)) buffer n → Stands (textFrom first input) buffer n
+  follows-end e a = record { is = a .is ∙ rw (← e) (sym (at-end (w .end) ended) ∙ rw (w .reached .is)); fits = a .fits }
 
   -- more of the input
   pub follows-more : (more : List ℕ) (n : ℕ) (why : Result End) (left : Tracker)
       → record { taken = n; result = why; left = left } ≡ feedOf (rest ++ more) s
-      → Reached first (place + n) why left (drop n (rest ++ more))
+      → Reached first (input ++ more) (place + n) why left (drop n (rest ++ more))
   follows-more more n why left q = record {
-    input = w .reached .input ++ more;
-    is = pieces (w .reached .input) more first ∙ rw (w .reached .is, w .reached .rest-is, ← q);
-    rest-is = sym (drop-drop n place (w .reached .input ++ more))
-        ∙ ap (drop n) (drop-append-le place (w .reached .input) more (within (w .end) ended) ∙ ap (λ l. l ++ more) (w .reached .rest-is));
+    is = pieces input more first ∙ rw (w .reached .is, w .reached .rest-is, ← q);
+    rest-is = sym (drop-drop n place (input ++ more))
+        ∙ ap (drop n) (drop-append-le place input more (within (w .end) ended) ∙ ap (λ l. l ++ more) (w .reached .rest-is));
   }
-
--- the bytes fed: what was left, and what was read behind it
-pub behind : (left count : ℕ) (before now : List ℕ) → take left now ≡ take left before
-    → take (left + count) now ≡ take left before ++ take count (drop left now)
-behind left count before now e = take-add left count now ∙ ap (λ l. l ++ take count (drop left now)) e
 
 -- no more was taken than was fed
 pub taken-most : (bytes : List ℕ) (s : Tracker) {f : Feeding} → f ≡ feedOf bytes s → f .taken ≤ length bytes
 taken-most bytes s e = rw e (taken-within bytes s)
 
+-- ---- one read
+
+-- the program goes on after a pause, or has a result
+abbrev pub Leads : (first : Tracker) → Pause → Next → (buffer : List ℕ) → Tables → Type 0
+Leads first p (next.On q) buffer t = Later p q × Followed first q buffer t
+Leads first p (next.Over d) buffer t = Tells first d buffer t
+
+-- so it does after a read, by what it came to, for the input with what came
+module _ {first : Tracker} {p : Pause} {t : Tables} {buffer : List ℕ} (ready : Ready p) (f : Followed first p buffer t)
+    (exit : List ℕ) (after : Tables) where
+  longer : ℕ → List ℕ
+  longer n = f .input ++ take n (drop (p .left) buffer)
+
+  leads : (c : Came) (r : Next) → AfterRead p t buffer c r exit after → Leads first p r exit after
+  unfolding longer
+  leads (came.Bytes n) (next.On q) a = let o = a first (f .input) (f .paused) in (o .0, record { input = longer n; paused = o .1 })
+  leads (came.Bytes n) (next.Over (done.Text m)) a = record { input = longer n; stands = a first (f .input) (f .paused) .1 }
+  leads (came.Bytes n) (next.Over done.Failed) a = absurd (a first (f .input) (f .paused))
+  leads (came.Bytes n) (next.Over done.Unending) a = absurd (a first (f .input) (f .paused))
+  leads came.End (next.On q) a = absurd (a first (f .input) (f .paused))
+  leads came.End (next.Over (done.Text m)) a = record { input = f .input; stands = a first (f .input) (f .paused) }
+  leads came.End (next.Over done.Failed) a = absurd (a first (f .input) (f .paused))
+  leads came.End (next.Over done.Unending) a = absurd (a first (f .input) (f .paused))
+  leads came.Again r a = rw (a .0, a .1, a .2) (
+    record { short = ready .short; further = omega arith; most = omega arith; same = refl },
+    record { input = f .input; paused = f .paused },
+  )
+  leads came.Failed r a = rw (a .0, a .1, a .2) (record { pause = p; followed = f })
+
+-- the same pause, with one more read counted
+abbrev pub counted : Pause → Pause
+counted p = record { kept = p .kept; left = p .left; place = p .place; reads = p .reads + 1 }
+
+-- the read leaves what was left over, so that the input so far is still followed
+pub read-leads : {first : Tracker} {p : Pause} {t after : Tables} {before exit : List ℕ} {r s : Next} → Ready (counted p)
+    → Followed first p before t → OneRead (counted p) t before r exit after → r ≡ s → Leads first (counted p) s exit after
+read-leads {first} {p} {t} {after} {before} {exit} {r} ready f o e =
+    let still : Followed first (counted p) (o .buffer) t = record { input = f .input; paused = rw (o .front) (f .paused) } in
+    rw e at (leads ready still exit after (cameOf (o .got) (o .error) (length (o .buffer) - p .left)) r (o .follows))
+
 -- ---- from the first settings on
 
 module _ (t after : Tables) where
-  pub telling-started : (kept : Record) (r : Done) (buffer : List ℕ) → record { result = gives kept; left = after } ≡ setupOf firstSettings t
-      → Telling (textFrom (record { kept = kept; tables = after })) r buffer → Telling (textOver t) r buffer
-  telling-started kept r buffer e h =
-      subst (λ (z : Outcome Record Tables). Telling (λ (input : List ℕ). textAfter (z .result) (z .left) input) r buffer) e h
+  pub tells-started : (kept : Record) (left : Tables) (r : Done) (buffer : List ℕ)
+      → record { result = gives kept; left = left } ≡ setupOf firstSettings t
+      → Tells (record { kept = kept; tables = left }) r buffer after → TellsOver t r buffer after
+  tells-started kept left (done.Text n) buffer e h = record {
+    input = h .input;
+    stands = record {
+      is = h .stands .is ∙ ap (λ (z : Outcome Record Tables). textAfter (z .result) (z .left) (h .input)) e;
+      fits = h .stands .fits;
+    };
+  }
+  tells-started kept left done.Failed buffer e h = record { first = record { kept = kept; tables = left }; is = sym e; holds = h }
+  tells-started kept left done.Unending buffer e h = record { first = record { kept = kept; tables = left }; is = sym e; holds = h }
 
-  pub telling-refused : (n : ℕ) {buffer : List ℕ} {m : ℕ} → record { result = refused n; left = after } ≡ setupOf firstSettings t
-      → Stands (refusedLine n 0) buffer m → Prints (textOver t) buffer m
-  telling-refused n e a =
-      record { input = []; stands = record { is = a .is ∙ ap (λ (z : Outcome Record Tables). textAfter (z .result) (z .left) []) e; fits = a .fits } }
+pub tells-refused : (t after : Tables) (n : ℕ) {buffer : List ℕ} {m : ℕ} → record { result = refused n; left = after } ≡ setupOf firstSettings t
+    → Stands (refusedLine n 0) buffer m → Prints (textOver t) buffer m
+tells-refused t after n e a =
+    record { input = []; stands = record { is = a .is ∙ ap (λ (z : Outcome Record Tables). textAfter (z .result) (z .left) []) e; fits = a .fits } }
+
+-- what is told of the program's own tables
+pub printing : (d : Done) (buffer : List ℕ) (after : Tables) → TellsOver firstTables d buffer after → Printing d buffer
+printing (done.Text n) buffer after h = h
+printing done.Failed buffer after h = tt
+printing done.Unending buffer after h = tt

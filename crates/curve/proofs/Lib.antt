@@ -1,3 +1,4 @@
 pub mod Laws
+pub mod Coming
 pub mod Input
 pub mod Printed

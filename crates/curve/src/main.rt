@@ -11,16 +11,18 @@ use rules::Settings;
 use rules::Started;
 use rules::Written;
 ghost use mathlib.Core.Path.{_≡_};
-ghost use mathlib.Core.Bool.{cond};
 ghost use Prim.Native.Nat.{_+_, _-_, _≤_, _<_};
-ghost use lib.Dec.{ltb};
 ghost use lib.ListN.{length, take, drop};
 ghost use Rattle.rules.specs.Answers.{numberOf};
 ghost use Rattle.rules.specs.Layout.{tablesBefore, trackerBefore, bucketsBefore, tablesAfter};
 ghost use Rattle.text.specs.Text.{refusedLine, longestRefused, curveOf};
 ghost use Rattle.feed.specs.Feed.{endingResult};
-ghost use Rattle.curve.specs.Program.{firstSettings, orRefused, textFrom, textOver, programOf};
-ghost use Rattle.curve.specs.Program.{Fitting, Stands, Telling, Ready, AfterFed, AfterBytes, AfterRead};
+ghost use Rattle.curve.specs.Program.{firstSettings, orRefused, lastText, cameOf, Stands, Ready, AfterFed, AfterBytes, AfterRead};
+ghost use Rattle.curve.specs.Program.{OneRead, Tells, TellsOver, Printing};
+
+// The bytes taken and the reads made are counted together, and at 2^64 - 65,537 the program gives up. After one read at most 65,536
+// bytes are taken, so that the sum never overflows.
+const MOST_COUNTED: u64 = 0xffff_ffff_fffe_ffff;
 
 // ---- the input, read in pieces
 
@@ -47,12 +49,12 @@ enum Done {
 }
 
 // The state between reads: the record; how many bytes are left over, at the front of the buffer; the place of the first of them in
-// the input; and a number that falls by one for each read and each byte taken, so that the program terminates.
+// the input; and how many reads were made.
 struct Pause {
     kept: Record,
     left: usize,
     place: u64,
-    reach: u64,
+    reads: u64,
 }
 
 // What follows a read: another read, or the result of the program.
@@ -63,20 +65,17 @@ enum Next {
     Over(Done),
 }
 
-// Reads standard input once, into the buffer after its first `have` bytes. An interrupted read is to be tried again.
-fn read_behind(buffer: &mut [u8], have: usize) -> Came
-    requires { ⌜ have < length (now buffer) ⌝ }
-    ensures { λ r. ⌜ Fitting r (length (now (buffer .entry)) - have) ⌝ }
-    ensures { λ _. ⌜ take have (now (buffer .exit)) ≡ take have (now (buffer .entry)) ⌝ }
+// What a read came to: `got` is what the system returned, `error` errno after it, and `part` was lent to it.
+fn came_of(got: isize, error: i32, part: &[u8]) -> Came
+    ensures { λ r. ⌜ r ≡ cameOf got error (length (now (part .entry))) ⌝ }
 {
-    let got = libc::read(STDIN_FILENO, &mut buffer[have..]);
     if got > 0 {
-        return Came::Bytes(io::count(got, &buffer[have..]));
+        return Came::Bytes(io::count(got, part));
     }
     if got == 0 {
         return Came::End;
     }
-    if os::errno() == EINTR {
+    if error == EINTR {
         return Came::Again;
     }
     Came::Failed
@@ -135,8 +134,7 @@ fn put_end(
     thresholds: &[u32],
 ) -> usize
     requires { ⌜ (length (now counts) ≤ 1026) × (65536 ≤ length (now out)) ⌝ }
-    ensures { λ r. ⌜ Stands
-        (cond (ltb 0 left) (refusedLine 7 place) (orRefused (curveOf kept (bucketsBefore counts thresholds)) place)) (now (out .exit)) r ⌝ }
+    ensures { λ r. ⌜ Stands (lastText left place kept (bucketsBefore counts thresholds)) (now (out .exit)) r ⌝ }
 {
     if 0 < left {
         return put_refusal(out, 7, place);
@@ -165,7 +163,7 @@ fn after_fed(p: Pause, fed: Fed, end: usize, buffer: &mut [u8]) -> Next
     let ending = fed.ending;
     let number = refusal_in(ending);
     let place = p.place + taken as u64;
-    let reach = p.reach - taken as u64;
+    let reads = p.reads;
     if 0 < number {
         return Next::Over(Done::Text(put_refusal(buffer, number, place)));
     }
@@ -174,11 +172,11 @@ fn after_fed(p: Pause, fed: Fed, end: usize, buffer: &mut [u8]) -> Next
         kept,
         left,
         place,
-        reach,
+        reads,
     })
 }
 
-// Feeds the bytes left over and those read after them.
+// Feeds the bytes left over and those that came after them.
 fn after_bytes(
     p: Pause,
     count: usize,
@@ -188,8 +186,8 @@ fn after_bytes(
     thresholds: &mut [u32],
 ) -> Next
     requires { ⌜ Ready p × (p .left + count ≤ 65536) × (length (now buffer) ≡ 65536) ⌝ }
-    ensures { λ r. ⌜ AfterBytes p (tablesBefore locations counts thresholds)
-        (take (p .left + count) (now (buffer .entry))) r (now (buffer .exit)) (tablesAfter locations counts thresholds) ⌝ }
+    ensures { λ r. ⌜ AfterBytes p (tablesBefore locations counts thresholds) (now (buffer .entry)) count
+        r (now (buffer .exit)) (tablesAfter locations counts thresholds) ⌝ }
 {
     let end = p.left + count;
     let kept = p.kept;
@@ -197,25 +195,28 @@ fn after_bytes(
     after_fed(p, fed, end, buffer)
 }
 
-// Reads once and acts on the result.
-fn one_read(
+// Does everything that follows a read: `got` is what the system returned and `error` errno after it.
+fn after_read(
     p: Pause,
+    got: isize,
+    error: i32,
     buffer: &mut [u8],
     locations: &mut [u64],
     counts: &mut [u64],
     thresholds: &mut [u32],
 ) -> Next
     requires { ⌜ Ready p × (length (now buffer) ≡ 65536) × (length (now counts) ≤ 1026) ⌝ }
-    ensures { λ r. ⌜ AfterRead p (tablesBefore locations counts thresholds)
-        (take (p .left) (now (buffer .entry))) r (now (buffer .exit)) (tablesAfter locations counts thresholds) ⌝ }
+    ensures { λ r. ⌜ AfterRead p (tablesBefore locations counts thresholds) (now (buffer .entry))
+        (cameOf got error (length (now (buffer .entry)) - p .left)) r (now (buffer .exit)) (tablesAfter locations counts thresholds) ⌝ }
 {
     let kept = p.kept;
-    match read_behind(buffer, p.left) {
+    let left = p.left;
+    match came_of(got, error, &buffer[left..]) {
         Came::Bytes(count) => after_bytes(p, count, buffer, locations, counts, thresholds),
         Came::End => Next::Over(Done::Text(put_end(
             buffer,
             kept,
-            p.left,
+            left,
             p.place,
             counts,
             thresholds,
@@ -225,7 +226,26 @@ fn one_read(
     }
 }
 
-// Reads and feeds the input until there is a result.
+// Reads once, behind the bytes left over, and does what follows. What the system puts there, and what it says of it, is not proved: this is
+// the only place that depends on it.
+fn one_read(
+    p: Pause,
+    buffer: &mut [u8],
+    locations: &mut [u64],
+    counts: &mut [u64],
+    thresholds: &mut [u32],
+) -> Next
+    requires { ⌜ Ready p × (length (now buffer) ≡ 65536) × (length (now counts) ≤ 1026) ⌝ }
+    ensures { λ r. ⌜ OneRead p (tablesBefore locations counts thresholds) (now (buffer .entry))
+        r (now (buffer .exit)) (tablesAfter locations counts thresholds) ⌝ }
+{
+    let left = p.left;
+    let got = libc::read(STDIN_FILENO, &mut buffer[left..]);
+    after_read(p, got, os::errno(), buffer, locations, counts, thresholds)
+}
+
+// Reads and feeds the input until there is a result. The promise is over some input: that these are the bytes of standard input is
+// not said.
 fn follow(
     kept: Record,
     buffer: &mut [u8],
@@ -234,16 +254,16 @@ fn follow(
     thresholds: &mut [u32],
 ) -> Done
     requires { ⌜ (length (now buffer) ≡ 65536) × (length (now counts) ≤ 1026) ⌝ }
-    ensures { λ r. ⌜ Telling (textFrom (trackerBefore kept locations counts thresholds)) r (now (buffer .exit)) ⌝ }
+    ensures { λ r. ⌜ Tells (trackerBefore kept locations counts thresholds) r (now (buffer .exit)) (tablesAfter locations counts thresholds) ⌝ }
 {
     let mut p = Pause {
         kept: kept,
         left: 0,
         place: 0,
-        reach: 0xffff_ffff_ffff_ffff,
+        reads: 0,
     };
-    while 65536 < p.reach {
-        p.reach -= 1;
+    while p.place + p.reads < MOST_COUNTED {
+        p.reads += 1;
         match one_read(p, buffer, locations, counts, thresholds) {
             Next::On(next) => {
                 p = next;
@@ -271,7 +291,7 @@ fn first_settings() -> Settings
 // Runs the program: the first setup, then the input.
 fn run(buffer: &mut [u8], locations: &mut [u64], counts: &mut [u64], thresholds: &mut [u32]) -> Done
     requires { ⌜ (length (now buffer) ≡ 65536) × (length (now counts) ≤ 1026) ⌝ }
-    ensures { λ r. ⌜ Telling (textOver (tablesBefore locations counts thresholds)) r (now (buffer .exit)) ⌝ }
+    ensures { λ r. ⌜ TellsOver (tablesBefore locations counts thresholds) r (now (buffer .exit)) (tablesAfter locations counts thresholds) ⌝ }
 {
     match setup::setup(first_settings(), locations, counts, thresholds) {
         Started::Ready(kept) => follow(kept, buffer, locations, counts, thresholds),
@@ -281,7 +301,7 @@ fn run(buffer: &mut [u8], locations: &mut [u64], counts: &mut [u64], thresholds:
 
 // Prints the text at the front of the buffer, or says on standard error why there is none.
 fn tell(done: Done, buffer: &[u8])
-    requires { ⌜ Telling programOf done (now buffer) ⌝ }
+    requires { ⌜ Printing done (now buffer) ⌝ }
 {
     match done {
         Done::Text(count) => {

@@ -2,7 +2,7 @@
 use native.Mathlib.Omega.{arith}
 use Prim.Native.Nat.{_+_}
 use mathlib.Core.Path.{sym}
-use lib.Seq.{length-take-le}
+use lib.Seq.{length-take-le, take-add}
 use Rattle.curve.proofs.Input.{taken-most, follows-more}
 use borrow.Author.Needs.{needs}
 use Rattle.curve.proofs.after_bytes.Statement.{statement}
@@ -48,8 +48,10 @@ same-length-4 c = fed c .feed .kept .1 .1 .1 .1 .0
 
 returns : tie.Need-returns
 returns c =
-    let feed = c .before .before .before .before .before .before .before .before .before .before .feed in
-    λ first rest more w e. c .before .before .after-fed .ensures first _ (rw e (follows-more first _ _ rest w more _ _ _ (rw e at (feed .ensures))))
+    let done = fed c in
+    let args = done .before .before .before .before .before .before .before .before .before .before .before .args in
+    let bytes = take-add (args .p .left) (args .count) (args .buffer .now) in
+    λ first input w. c .before .before .after-fed .ensures first _ _ (rw bytes (follows-more w _ _ _ _ (rw bytes at (done .feed .ensures))))
 
 pub after-bytes-spec : {M : Type 1} → statement M
 after-bytes-spec =

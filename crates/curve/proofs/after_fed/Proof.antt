@@ -1,5 +1,6 @@
 -- Where feeding ended with a refusal, its line is printed; else less than an event is left, and it is moved to the front.
 use native.Mathlib.Omega.{arith}
+use mathlib.Core.Path.{refl}
 use lib.ListN.{take, length-drop}
 use lib.Seq.{length-take-le}
 use Rattle.curve.proofs.Input.{no-refusal, a-refusal, reached-follows, reached-refused, follows-short}
@@ -16,9 +17,6 @@ refusal-in-requires c κs = tt
 add-place : tie.Need-add-place
 add-place c = search needs
 
-sub-reach : tie.Need-sub-reach
-sub-reach c = search needs
-
 put-refusal-requires : tie.Need-put-refusal-requires
 put-refusal-requires c κs = search needs
 
@@ -26,8 +24,8 @@ same-length : tie.Need-same-length
 same-length c = c .before .before .put-refusal .kept .0
 
 returns : tie.Need-returns
-returns c = λ first t w.
-    let d = c .before .before .before .before .before .before .before in
+returns c = λ first input t w.
+    let d = c .before .before .before .before .before .before in
     reached-refused w (a-refusal (start d .args .fed .ending) (d .refusal-in .ensures) (c .before .before .before .before .if1 .taken))
     (c .before .before .put-refusal .ensures)
 
@@ -38,8 +36,8 @@ same-length-2 : tie.Need-same-length-2
 same-length-2 c = c .before .before .to-front .kept .0
 
 returns-2 : tie.Need-returns-2
-returns-2 c = λ first t w.
-    let d = c .before .before .before .before .before .before .before in
+returns-2 c = λ first input t w.
+    let d = c .before .before .before .before .before .before in
     let args = start d .args in
     let moved = c .before .before .to-front in
     let f = reached-follows w
@@ -47,9 +45,10 @@ returns-2 c = λ first t w.
     let some = length-drop (args .fed .taken) (take (args .end) (args .buffer .now)) in
     let all = length-take-le (args .end) (args .buffer .now) (omega (arith, start d .pre)) in (
       record {
-        short = omega (arith, follows-short _ _ _ _ f, some, all, moved .ensures .0);
-        falls = omega arith;
-        counted = omega (arith, start d .pre);
+        short = omega (arith, follows-short f, some, all, moved .ensures .0);
+        further = omega arith;
+        most = omega (arith, start d .pre);
+        same = refl;
       },
       rw (moved .ensures .1) f,
     )
@@ -60,7 +59,6 @@ after-fed-spec =
     (tie.spec
     refusal-in-requires
     add-place
-    sub-reach
     put-refusal-requires
     same-length
     returns

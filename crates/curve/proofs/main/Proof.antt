@@ -1,6 +1,7 @@
 -- The tables have the lengths that `run` asks for, and what it tells of is what `tell` asks for.
 use mathlib.Core.Path.{refl}
 use borrow.Author.Needs.{needs}
+use Rattle.curve.proofs.Input.{printing}
 use Rattle.curve.proofs.main.Statement.{statement}
 use Rattle.curve.proofs.main.Tie as tie
 
@@ -26,7 +27,7 @@ slice-aggregate-tell : tie.Need-slice-aggregate-tell
 slice-aggregate-tell c = search needs
 
 tell-requires : tie.Need-tell-requires
-tell-requires c κs = c .before .before .before .before .before .run .ensures
+tell-requires c κs = let ran = c .before .before .before .before .before .run in printing (ran .result) _ _ (ran .ensures)
 
 returns : tie.Need-returns
 returns c = tt

@@ -1,7 +1,4 @@
 -- The buffer has room for the line, so that it is not refused.
-use mathlib.Core.Path.{sym, ap, _∙_}
-use Rattle.rules.specs.Answers.{writtenResult}
-use Rattle.rules.specs.Order.{outcome}
 use Rattle.curve.proofs.Input.{refused-stands, refusal-fits}
 use borrow.Author.Needs.{needs}
 use Rattle.curve.proofs.put_refusal.Statement.{statement}

@@ -1,7 +1,7 @@
 -- Setup is accepted, and the rest is `follow`'s; or it is refused, and its line is the text.
 use mathlib.Core.Path.{refl, _∙_}
 use native.Mathlib.Omega.{arith}
-use Rattle.curve.proofs.Input.{telling-started, telling-refused}
+use Rattle.curve.proofs.Input.{tells-started, tells-refused}
 use borrow.Author.Needs.{needs}
 use Rattle.curve.proofs.run.Statement.{statement}
 use Rattle.curve.proofs.run.Tie as tie
@@ -60,7 +60,7 @@ returns c =
     let ready = done .before .before .before .before .before .before in
     let d = ready .before .before .before .before .before .before in
     let first = d .before .before .before .before .first-settings in
-    telling-started _ _ _ (done .follow .result) (done .follow .last .1 .0)
+    tells-started _ _ _ _ (done .follow .result) (done .follow .last .1 .0)
     (rw (ready .kept .given .1, first .ensures) at (d .setup .ensures)) (done .follow .ensures)
 
 same-length-5 : tie.Need-same-length-5
@@ -81,7 +81,7 @@ returns-2 c =
     let d = refused .before .before .before .before .before .before in
     let first = d .before .before .before .before .first-settings in
     let number = c .before .before .before .number-of .ensures in
-    telling-refused _ _ _ (rw (refused .why .given .1, first .ensures) at (d .setup .ensures))
+    tells-refused _ _ _ (rw (refused .why .given .1, first .ensures) at (d .setup .ensures))
     (rw number at (c .before .before .put-refusal .ensures))
 
 pub run-spec : {M : Type 1} → statement M
