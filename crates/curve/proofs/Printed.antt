@@ -34,11 +34,13 @@ pub printed : (input : List ℕ) → Printed input
 printed input =
     let r = ran input start in
     let run = r .continued [] (setup firstSettings firstTables begins) in
+    let says = of-run (pastOf (r .events) []) (feedOf input start .left) run in
     record {
       events = r .events;
       are = r .are;
       run = run;
       text = λ e. ap (λ b. textAfter (b .result) (b .left) input) begins
           ∙ ap (λ z. endText z (feedOf input start .taken) (feedOf input start .left)) e
-          ∙ ap (λ z. orRefused z (feedOf input start .taken)) (of-run (pastOf (r .events) []) (feedOf input start .left) run .given);
+          ∙ ap (λ z. orRefused z (feedOf input start .taken)) (says .given);
+      lines = says;
     }

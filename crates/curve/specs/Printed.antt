@@ -9,6 +9,7 @@ use Rattle.rules.specs.Answers.{gives}
 use Rattle.rules.specs.Layout.{Tracker, fresh}
 use Rattle.demands.specs.Runs.{Run}
 use Rattle.text.specs.Text.{curveText}
+use Rattle.text.specs.OfRun.{Printable}
 use Rattle.feed.specs.Feed.{whole, feedOf}
 use Rattle.feed.specs.Past.{Events, pastOf}
 use Rattle.curve.specs.Program.{firstSettings, firstTables, programOf}
@@ -18,10 +19,11 @@ unfoldable pub start : Tracker
 start = fresh (withDefaults firstSettings) firstTables
 
 -- the events of an input that are taken, and the run whose references are those since the last fresh start among them; if the input
--- ends after a whole event and none is refused, the program prints the curve of what that run left
+-- ends after a whole event and none is refused, the program prints the curve of what that run left, in so many lines
 pub record Printed (input : List ℕ) : Type 0 where
   pub events : List Event
   pub are : Events (take (feedOf input start .taken) input) events
   pub run : Run (pastOf events []) (feedOf input start .left)
   pub text : feedOf input start .result ≡ gives whole
       → programOf input ≡ curveText (feedOf input start .left .kept) (feedOf input start .left .tables .histogram)
+  pub lines : Printable (feedOf input start .left .kept) (feedOf input start .left .tables .histogram)
