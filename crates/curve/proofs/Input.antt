@@ -33,7 +33,8 @@ use Rattle.curve.specs.declared.Pause.{Pause}
 use Rattle.curve.specs.declared.Next.{Next}
 use Rattle.curve.specs.declared.Next.the-variants as next
 use Rattle.curve.specs.Program.{firstSettings, firstTables, orRefused, endText, lastText, textFrom, textAfter, textOver, cameOf}
-use Rattle.curve.specs.Program.{Stands, Reached, Follows, Refuses, Ready, Later, AfterRead, OneRead, Prints, Followed, Tells, TellsOver, Printing}
+use Rattle.curve.specs.Program.{Stands, Reached, Follows, Refuses, Ready, Later, AfterRead, OneRead, Prints, Followed}
+use Rattle.curve.specs.Program.{Tells, TellsOver, Printing}
 
 -- ---- what feeding ended with
 

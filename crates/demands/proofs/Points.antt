@@ -3,10 +3,9 @@
 -- `FullRate`'s `exact-step`. Assumes nothing.
 use Prim.Native.Nat.{ℕ, zero, suc, _-_, _*_, _≤_}
 use mathlib.Core.Path.{_≡_, refl, ap, subst, _∙_}
-use mathlib.Core.Bool.{false, not}
+use mathlib.Core.Bool.{false}
 use mathlib.Core.List.{List, [], _∷_}
 use native.Mathlib.Omega.{arith}
-use lib.Dec.{eqb}
 use lib.ListN.{length}
 use borrow.Author.Tests.{eq-eqb, ne-eqb, le-ltb}
 use Rattle.rules.specs.Settings.{Histogram, needed, fullRate, oneReference}
@@ -24,6 +23,7 @@ use Rattle.rules.proofs.History.{recency-once}
 use Rattle.rules.proofs.Bounds.{whole, not-torn, all-long, buckets-none-short}
 use Rattle.rules.proofs.Clean.{Clean}
 use Rattle.rules.proofs.Steps.{Tracked}
+use Rattle.rules.proofs.Calls.{own-shape}
 use Rattle.rules.proofs.FullRate.{profile-cut, Exact, exact-report, exact-step, threshold-stays}
 use Rattle.rules.proofs.Fresh.{exact-fresh}
 use Rattle.demands.specs.Runs.{Run}
@@ -42,9 +42,6 @@ none-torn n start references t g p c (suc m) h = or-neither (none-torn n start r
   counted = c .count-high m h;
 }))
 
-same-number : (n : ℕ) → not (eqb n n) ≡ false
-same-number n = ap not (eq-eqb n n refl)
-
 pub only-point-or-empty : OnlyPointOrEmpty
 unfolding pointOf tornTo
 only-point-or-empty past s k run =
@@ -54,7 +51,7 @@ only-point-or-empty past s k run =
     none-torn (needed (set .buckets)) (set .start) _ _ (s .tables .histogram) (whole (s .kept) (v .record-whole) .range .start-high) (v .clean)
     (needed (set .buckets)) (omega arith) in
     let n : bucketsTooShort set (s .tables .histogram) ≡ false = buckets-none-short set (s .tables) (v .tables-long) in
-    rw (v .record-whole, n, same-number (set .buckets), same-number (set .width), t, le-ltb _ _ (v .clean .raw-high))
+    rw (v .record-whole, n, own-shape (s .kept), t, le-ltb _ _ (v .clean .raw-high))
 
 -- ---- demand 2 at full rate
 

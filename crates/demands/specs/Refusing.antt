@@ -68,6 +68,7 @@ ApplyInOrder = (e : Event) (s : Tracker) → applyOf e s .result ≡ says (apply
 abbrev pub AnotherShape : Shape → Settings → Type 0
 AnotherShape believed s = believed .buckets ≡ s .buckets → believed .width ≡ s .width → ⊥
 
+-- every answer that the two promises allow is this refusal
 pub record RefusedAs (why : Refusal) (kept : Record) (believed : Shape) (n : ℕ) (g : Histogram) : Type 0 where
   pub point : (answer : Pointed) → pointResult answer ≡ pointOf kept believed n g → answer ≡ pointed.Refused why
   pub plotted : (answer : Plotted) → plotResult answer ≡ plotOf kept believed n g → answer ≡ plotted.Refused why

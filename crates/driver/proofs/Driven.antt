@@ -555,7 +555,9 @@ read-back-in e before after w (is, fits) z bytes = result-cases (writeOf e befor
     let promise : WritePromise e before (written.Filled n) after = ((λ i. outcome (sym filled i) (is i .left)), fits) in
     ap eventWords (reads-back e before after n promise bytes (subst (λ k. take k bytes ≡ take k after) told begins))
     ∙ (λ i. eventWords (gives (record { event = e; taken = sym told i }))))
-    (λ n r begins. absurd (write-some e before (r ∙ ap refused (sym (ap (λ q. writtenWords q .refusal) r) ∙ sym (ap (λ o. o .value .refusal) is) ∙ z))))
+    (λ n r begins.
+    let told : w .refusal ≡ n = ap (λ o. o .value .refusal) is ∙ ap (λ q. writtenWords q .refusal) r in
+    absurd (write-some e before (r ∙ ap refused (sym told ∙ z))))
 
 -- ---- demands 2 and 3
 

@@ -1,3 +1,4 @@
 pub mod Feed
 pub mod Past
 pub mod Refused
+pub mod Alike

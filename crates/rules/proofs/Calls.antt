@@ -8,7 +8,7 @@ use mathlib.Core.Option.{Option, some, none}
 use native.Mathlib.Omega.{arith}
 use lib.ListN.{length, length-take}
 use lib.Dec.{ltb, eqb}
-use borrow.Author.Tests.{ltb-true, ltb-false, eqb-false}
+use borrow.Author.Tests.{ltb-true, ltb-false, eqb-false, eq-eqb}
 use Rattle.rules.specs.declared.Settings.{Settings}
 use Rattle.rules.specs.declared.Numbers.{Numbers}
 use Rattle.rules.specs.declared.Record.{Record}
@@ -23,7 +23,8 @@ use Rattle.rules.specs.Answers.{refused, gives, Result}
 use Rattle.rules.specs.Order.{FirstAt, refusalAt, outcome, Outcome, says, Judged}
 use Rattle.rules.specs.Layout.{Tracker, sampleOf, hashFor, profileOf, counted, stored, freshTables, freshRecord}
 use Rattle.rules.specs.Conditions.{bucketsTooShort, tooShort, tornRecord, tornReport, tornFor, full, stale}
-use Rattle.rules.specs.Calls.{setupOrder, setupOf, restartOrder, restartOf, stepOf, referOrder, referOf, pointOrder, pointOf, plotOf}
+use Rattle.rules.specs.Calls.{setupOrder, setupOf, restartOrder, restartOf, stepOf, referOrder, referOf, pointOrder, pointOf}
+use Rattle.rules.specs.Calls.{ownShape, plotOf}
 use Rattle.rules.proofs.Tests.{cases}
 use Rattle.rules.proofs.Order.{not-both, either, says-refused, leaves-first, says-accepted}
 use Rattle.rules.proofs.Lists.{length-erase}
@@ -194,6 +195,10 @@ module _ (kept : Record) (believed : Shape) (n : ℕ) (g : Histogram) where
         report-whole = v .1 .0;
         some-total = v .1 .1 .0;
       }
+
+-- the record's own shape is never stale
+pub own-shape : (kept : Record) → stale (ownShape kept) (kept .settings) ≡ false
+own-shape kept = rw (eq-eqb (kept .settings .buckets) _ refl, eq-eqb (kept .settings .width) _ refl)
 
 -- ---- a point as a pair of doubles: the point's answer, with its value changed
 

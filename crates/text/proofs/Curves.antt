@@ -2,12 +2,12 @@
 -- after the text itself. Assumes nothing.
 use Prim.Native.Nat.{ℕ, _+_, _≤_, _<_}
 use mathlib.Core.Path.{_≡_, refl, sym, ap, _∙_}
-use mathlib.Core.Bool.{Bool, true, false, not, cond}
+use mathlib.Core.Bool.{Bool, true, false, cond}
 use mathlib.Core.List.{List, [], _∷_, _++_}
 use lib.Dec.{eqb, ltb}
 use lib.ListN.{length}
 use native.Mathlib.Omega.{arith}
-use borrow.Author.Tests.{eq-eqb, eqb-true, ltb-true, ltb-false, le-ltb, lt-ltb}
+use borrow.Author.Tests.{eqb-true, ltb-true, ltb-false, le-ltb, lt-ltb}
 use Rattle.rules.specs.declared.Record.{Record}
 use Rattle.rules.specs.declared.Point.{Point}
 use Rattle.rules.specs.declared.Refusal.{Refusal}
@@ -21,15 +21,13 @@ use Rattle.rules.specs.Calls.{pointOf, ownPoint}
 use Rattle.rules.proofs.Tests.{cases}
 use Rattle.rules.proofs.Bounds.{whole}
 use Rattle.rules.proofs.Answers.{number-injective}
+use Rattle.rules.proofs.Calls.{own-shape}
 use Rattle.rules.proofs.Order.{not-both, either, says-given, says-refused, says-accepted}
 use Rattle.text.specs.Text.{endLine, emptyLine, firstLine, pointOn, linesTo, noTotal, curveText, curveOrder, curveOf, Given, Judges}
 use Rattle.text.specs.Text.{Adds, longestCurve, inBuffer, curveIn}
 use Rattle.text.proofs.Laws.{over-all}
 
 -- ---- the curve and its points
-
-same : (n : ℕ) → not (eqb n n) ≡ false
-same n = ap not (eq-eqb n n refl)
 
 -- what the answer to a point says of the curve: 9 is an empty one, and any other refusal is the curve's
 abbrev pub judgement : Result Point → Result Bool
@@ -47,7 +45,7 @@ module _ (kept : Record) (g : Histogram) where
   own-is : (k : ℕ) → k ≤ kept .settings .buckets
       → ownPoint kept k g ≡ says (curveOrder kept g ++ ((refusal.Empty when noTotal kept g) ∷ [])) (pointOn kept k g)
   unfolding pointOf
-  own-is k h = rw (same (kept .settings .buckets), same (kept .settings .width), le-ltb _ _ h)
+  own-is k h = rw (own-shape kept, le-ltb _ _ h)
 
   pub point-judges : Judges kept g (judgement (ownPoint kept 0 g))
   point-judges = record {
