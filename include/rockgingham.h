@@ -185,9 +185,9 @@ struct rockgingham_answer rockgingham_refer(uint64_t *record, size_t record_word
 /*
  * The shape that the caller believes the curve to have: buckets and width after defaults, as they stand in the record after the
  * setup that the caller knows of. Keep it with the points that were planned with it, and pass it with each: if the tracker has
- * meanwhile been set up with other buckets or another width, the point is refused 5, whatever its number; only 2 and 3, for
- * words or tables that are too few and for a torn record, come before that. A tracker that was set up anew with the same buckets
- * and width cannot be told from the old one: its points are not refused 5.
+ * meanwhile been set up with other buckets or another width, the point is refused 5, whatever its number. Only 2, for too few
+ * words or entries, and 3, for a torn record, come before that. A tracker that was set up anew with the same buckets and width
+ * cannot be told from the old one: its points are not refused 5.
  */
 struct rockgingham_shape {
     uint64_t buckets;
