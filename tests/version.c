@@ -1,6 +1,6 @@
 /*
- * A record, made by one of the calls that make one: BY_SETUP, BY_APPLY or BY_FEED is defined. It links only with a library of
- * the version that it was compiled for.
+ * A tracker, set up by one of the calls that can do it: BY_SETUP, BY_APPLY or BY_FEED is defined. It links only with a library
+ * of the version that it was compiled for.
  */
 #include "rockgingham.h"
 

@@ -16,6 +16,7 @@ use Rattle.rules.specs.Layout.{Tracker, liveOf, sampleOf, hashFor, profileOf, c
 use Rattle.rules.specs.Conditions.{tooShort, tornRecord, tornAt, tornFor, full}
 use Rattle.rules.specs.Calls.{stepOf}
 use Rattle.rules.proofs.Tests.{cases}
+use Rattle.rules.proofs.Answers.{gives-same}
 use Rattle.rules.proofs.Tables.{over-front}
 use Rattle.rules.proofs.Bounds.{Whole, whole, untorn, InRange, in-range, all-long, none-short, not-torn}
 use Rattle.rules.proofs.Steps.{Tracked, tracked-fresh, tracked-step}
@@ -46,9 +47,6 @@ invariant-fresh s t e l =
       live-is = refl;
       references-is = refl;
     }
-
-pub gives-same : {A : Type 0} {a b : A} → gives a ≡ gives b → a ≡ b
-gives-same e = cc
 
 started-state : {b : Outcome Record Tables} {kept : Record} {s : Tracker} {u : Tables} → b ≡ record { result = gives kept; left = u }
     → b ≡ record { result = gives (s .kept); left = s .tables } → record { kept = kept; tables = u } ≡ s

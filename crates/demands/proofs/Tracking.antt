@@ -18,10 +18,11 @@ use Rattle.rules.specs.declared.Settings.{Settings}
 use Rattle.rules.proofs.Tests.{cases}
 use Rattle.rules.proofs.Steps.{replied-skipped, replied-first, replied-again}
 use Rattle.rules.proofs.Calls.{refer-accept, refer-accepted, refer-full}
+use Rattle.rules.proofs.Answers.{gives-same}
 use Rattle.demands.specs.Runs.{Run, answers, sampledIn}
 use Rattle.demands.specs.Statements.{inForce, Threshold, LiveList, historyReply, Answers, Numbers, OnlyFull, Bounds, RefusedAnywhere}
 use Rattle.demands.proofs.Refusing.{untouched}
-use Rattle.demands.proofs.Invariant.{gives-same, by-run, invariant, accepted}
+use Rattle.demands.proofs.Invariant.{by-run, invariant, accepted}
 
 pub threshold : Threshold
 threshold past s run = invariant run .tracked .threshold-is

@@ -10,12 +10,12 @@ use Rattle.rules.specs.declared.Event.{Event}
 use Rattle.rules.specs.Lists.{keep, has, upto}
 use Rattle.rules.specs.Settings.{needed, mostReferences, fullRate, oneReference}
 use Rattle.rules.specs.Reference.{Reply, skipped, first, again, countAt, thresholdAt}
-use Rattle.rules.specs.Curve.{rawTo, totalOf, curvePoint}
+use Rattle.rules.specs.Curve.{rawTo, totalOf}
 use Rattle.rules.specs.Answers.{refused, gives}
 use Rattle.rules.specs.Order.{outcome}
 use Rattle.rules.specs.Events.{eventBytes, eventLength, Fits, readOf, writeOf}
 use Rattle.rules.specs.Layout.{Tracker, liveOf, hashFor, profileOf}
-use Rattle.rules.specs.Calls.{setupOf, restartOf, referOf, ownPoint}
+use Rattle.rules.specs.Calls.{setupOf, restartOf, referOf, pointOn, ownPoint}
 use Rattle.rules.specs.History.{recency, distance, Largest, Reference, location, locations}
 use Rattle.rules.specs.Cache.{hits}
 use Rattle.demands.specs.Runs.{Run, answers, sampledIn}
@@ -108,7 +108,7 @@ OnlyPointOrEmpty = (past : List Reference) (s : Tracker) (k : ℕ) → Run past 
     → ownPoint (s .kept) k (s .tables .histogram)
     ≡ cond (ltb (s .kept .settings .buckets) k) (refused 6)
     (cond (eqb (totalOf (s .kept .threshold) (s .kept .settings .buckets) (s .tables .histogram)) 0) (refused 9)
-    (gives (curvePoint (profileOf (s .kept .settings)) (s .kept .threshold) k (s .tables .histogram))))
+    (gives (pointOn (s .kept) k (s .tables .histogram))))
 
 -- every bucket threshold is at least 1 and between T and T0, and counts stay within their bounds
 pub record Bounded (s : Tracker) (j : ℕ) : Type 0 where

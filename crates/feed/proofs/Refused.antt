@@ -16,6 +16,7 @@ use Rattle.rules.specs.Events.{readOf}
 use Rattle.rules.specs.Layout.{Tracker}
 use Rattle.rules.specs.Calls.{applyOf}
 use Rattle.rules.proofs.Tests.{cases}
+use Rattle.rules.proofs.Answers.{refused-same}
 use Rattle.rules.proofs.Order.{not-both}
 use Rattle.rules.proofs.Events.{read-empty, taken}
 use Rattle.rules.proofs.Fronts.{drop-take, read-eight}
@@ -27,9 +28,6 @@ use Rattle.feed.proofs.Laws.{apply-either, feed-reads, by-feeding}
 use Rattle.feed.proofs.Pieces.{taken-within, pieces, taken-alone}
 
 -- ---- only so
-
-same-number : {A : Type 0} {m n : ℕ} → _≡_ {A = Result A} (refused m) (refused n) → m ≡ n
-same-number e = cc
 
 -- the first refusal of an order is that of any event, as `applyOf` gives it
 event-first : (e : Event) (s : Tracker) (n : ℕ) → applyOf e s .result ≡ refused n → FirstIs n (applyOrder e s)
@@ -45,8 +43,8 @@ first-next = by-feeding (λ bytes s f. (n : ℕ) → f .result ≡ refused n →
     (λ bytes s some e n r. absurd (not-both r refl))
     (λ bytes s m other some e n r.
     let eight = read-eight bytes other e in
-    rw e (record { place = 0; first = eq-eqb m 8 eight; numbered = sym eight ∙ same-number r }))
-    (λ bytes s g m e q n r. rw e (event-first (g .event) s n (ap (λ o. o .result) q ∙ ap refused (same-number r))))
+    rw e (record { place = 0; first = eq-eqb m 8 eight; numbered = sym eight ∙ refused-same r }))
+    (λ bytes s g m e q n r. rw e (event-first (g .event) s n (ap (λ o. o .result) q ∙ ap refused (refused-same r))))
     (λ bytes s g left e t h n r.
     let f = feedOf (drop (g .taken) bytes) left in
     subst (λ rest. Next n rest (f .left)) (drop-drop (f .taken) (g .taken) bytes) (h n r))
@@ -66,13 +64,13 @@ module _ (bytes : List ℕ) (s : Tracker) (n : ℕ) where
       cases (eqb m 8)
       (λ q.
       let eight : m ≡ 8 = eqb-true m 8 q in
-      let is : 8 ≡ n = same-number (rw q at refuses) in
-      feed-reads bytes s (some-bytes e (λ z. omega (arith, same-number z))) (refused m) e ∙ rw (eight, ← is))
+      let is : 8 ≡ n = refused-same (rw q at refuses) in
+      feed-reads bytes s (some-bytes e (λ z. omega (arith, refused-same z))) (refused m) e ∙ rw (eight, ← is))
       (λ q. absurd (not-both refuses (rw q)))
   at-once (gives g) e x = apply-either s (g .event)
       (λ left t. absurd (not-both (apply-in-order (g .event) s ∙ in-order .always-so (applyOrder (g .event) s) tt n x) (ap (λ o. o .result) (t .is))))
       (λ m q. feed-reads bytes s (omega (arith, taken bytes e)) (gives g) e ∙ rw q (ap (λ z. stopped (refused z) s)
-      (same-number {A = Unit {0}} (sym (ap (λ o. o .result) q) ∙ apply-in-order (g .event) s
+      (refused-same {A = Unit {0}} (sym (ap (λ o. o .result) q) ∙ apply-in-order (g .event) s
       ∙ in-order .always-so (applyOrder (g .event) s) tt n x))))
 
 module _ (bytes : List ℕ) (s : Tracker) (n : ℕ) (f : Feeding) (r : f .result ≡ refused n) (x : RefusedAfter n bytes s f) where

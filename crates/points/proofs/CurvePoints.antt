@@ -14,15 +14,15 @@ use Rattle.rules.specs.declared.Shape.{Shape}
 use Rattle.rules.specs.declared.Point.{Point}
 use Rattle.buckets.specs.declared.Sums.{Sums}
 use Rattle.rules.specs.Settings.{Histogram, needed}
-use Rattle.rules.specs.Curve.{hitsAt, totalOf, curvePoint, plotPoint}
-use Rattle.rules.specs.Answers.{Result, refused, gives}
-use Rattle.rules.specs.Layout.{profileOf}
+use Rattle.rules.specs.Curve.{hitsAt, totalOf, plotPoint}
+use Rattle.rules.specs.Answers.{refused, gives}
 use Rattle.rules.specs.Conditions.{bucketsTooShort, tornRecord, tornReport, stale}
-use Rattle.rules.specs.Calls.{pointOf}
+use Rattle.rules.specs.Calls.{pointOn, pointOf}
 use Rattle.rules.proofs.Tests.{cases}
 use Rattle.rules.proofs.Bounds.{whole, buckets-long}
 use Rattle.rules.proofs.Report.{sum-rises, total-high}
 use Rattle.rules.proofs.Order.{not-both}
+use Rattle.rules.proofs.Answers.{gives-same, refused-same}
 use Rattle.rules.proofs.FullRate.{size-fits as size-below}
 use Rattle.rules.proofs.Calls.{point-buckets, point-empty, point-given, point-accepted}
 use Rattle.buckets.specs.Buckets.{reportOf}
@@ -58,11 +58,8 @@ module _ (kept : Record) (believed : Shape) (n : ℕ) (g : Histogram)
   pub from-refused : {m : ℕ} → refused m ≡ reportOf (kept .numbers .references) (kept .threshold) (needed (kept .settings .buckets)) n g
       → refused m ≡ pointOf kept believed n g
   from-refused r = cases (tornReport (kept .numbers .references) (kept .threshold) (kept .settings .buckets) g)
-      (λ t. ap refused (same (r ∙ report-torn t)) ∙ sym (point-buckets kept believed n g e f h no-point t))
+      (λ t. ap refused (refused-same (r ∙ report-torn t)) ∙ sym (point-buckets kept believed n g e f h no-point t))
       (λ t. absurd (not-both (sym r) (report-sums t)))
-    where
-      same : {i j : ℕ} → _≡_ {A = Result Sums} (refused i) (refused j) → i ≡ j
-      same q = cc
 
   -- it has its sums
   module _ (sums : Sums) (r : gives sums ≡ reportOf (kept .numbers .references) (kept .threshold) (needed (kept .settings .buckets)) n g) where
@@ -70,10 +67,7 @@ module _ (kept : Record) (believed : Shape) (n : ℕ) (g : Histogram)
         × (sums ≡ record { hits = hitsAt (kept .threshold) n g; total = totalOf (kept .threshold) (kept .settings .buckets) g })
     whole-report = cases (tornReport (kept .numbers .references) (kept .threshold) (kept .settings .buckets) g)
         (λ t. absurd (not-both (report-torn t) (sym r)))
-        (λ t. (t, same (r ∙ report-sums t)))
-      where
-        same : {a b : Sums} → gives a ≡ gives b → a ≡ b
-        same q = cc
+        (λ t. (t, gives-same (r ∙ report-sums t)))
 
     pub from-sums : fromSums (kept .settings) n sums ≡ pointOf kept believed n g
     from-sums = rw (whole-report .1) (cases (eqb (totalOf (kept .threshold) (kept .settings .buckets) g) 0)
@@ -103,15 +97,12 @@ pub in-double : (kept : Record) (believed : Shape) (n : ℕ) (g : Histogram) (p 
 in-double kept believed n g p a = let w = point-accepted kept believed n g a in
     fits (w .record-whole) (ltb-false (kept .settings .buckets) n (w .on-curve)) (w .report-whole)
     (eqb-false (totalOf (kept .threshold) (kept .settings .buckets) g) 0 (w .some-total))
-    (same (sym (point-given kept believed n g w) ∙ a))
+    (gives-same (sym (point-given kept believed n g w) ∙ a))
   where
-    same : {a b : Point} → gives a ≡ gives b → a ≡ b
-    same q = cc
-
     fits : tornRecord kept ≡ false → n ≤ kept .settings .buckets
         → tornReport (kept .numbers .references) (kept .threshold) (kept .settings .buckets) g ≡ false
         → (totalOf (kept .threshold) (kept .settings .buckets) g ≡ 0 → ⊥)
-        → curvePoint (profileOf (kept .settings)) (kept .threshold) n g ≡ p → InDouble p
+        → pointOn kept n g ≡ p → InDouble p
     fits e l t z q =
         let w = whole kept e in
         let high = total-high (kept .numbers .references) (kept .threshold) g (kept .settings .buckets) t in

@@ -30,6 +30,13 @@ use Rattle.rules.specs.Answers.{Result, refused, gives, number, numberOf
 pub undone : {A B : Type 0} (f : A → B) (g : B → A) → ((a : A) → g (f a) ≡ a) → (a b : A) → f a ≡ f b → a ≡ b
 undone f g e a b q = sym (e a) ∙ ap g q ∙ e b
 
+-- the same results are of the same value, or number
+pub gives-same : {A : Type 0} {a b : A} → gives a ≡ gives b → a ≡ b
+gives-same e = cc
+
+pub refused-same : {A : Type 0} {m n : ℕ} → _≡_ {A = Result A} (refused m) (refused n) → m ≡ n
+refused-same e = cc
+
 -- the refusal of a number
 named : ℕ → Refusal
 named n =

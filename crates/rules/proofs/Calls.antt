@@ -18,13 +18,13 @@ use Rattle.rules.specs.declared.PlotPoint.{PlotPoint}
 use Rattle.rules.specs.Lists.{has, upto}
 use Rattle.rules.specs.Settings.{withDefaults, outOfRange, Histogram, Tables, needed, mostReferences}
 use Rattle.rules.specs.Reference.{Sample, Profile, under, lowered, recordIn, bucketFor, withinLimit, Reply, skipped, first, again, Stepped, step}
-use Rattle.rules.specs.Curve.{totalOf, curvePoint, plotPoint}
+use Rattle.rules.specs.Curve.{totalOf, plotPoint}
 use Rattle.rules.specs.Answers.{refused, gives, Result}
 use Rattle.rules.specs.Order.{FirstAt, refusalAt, outcome, Outcome, says, Judged}
 use Rattle.rules.specs.Layout.{Tracker, sampleOf, hashFor, profileOf, counted, stored, freshTables, freshRecord}
 use Rattle.rules.specs.Conditions.{bucketsTooShort, tooShort, tornRecord, tornReport, tornFor, full, stale}
 use Rattle.rules.specs.Calls.{setupOrder, setupOf, restartOrder, restartOf, stepOf, referOrder, referOf, pointOrder, pointOf}
-use Rattle.rules.specs.Calls.{ownShape, plotOf}
+use Rattle.rules.specs.Calls.{pointOn, ownShape, plotOf}
 use Rattle.rules.proofs.Tests.{cases}
 use Rattle.rules.proofs.Order.{not-both, either, says-refused, leaves-first, says-accepted}
 use Rattle.rules.proofs.Lists.{length-erase}
@@ -153,7 +153,7 @@ module _ (kept : Record) (believed : Shape) (n : ℕ) (g : Histogram) where
   point-refused : (i : ℕ) → FirstAt i (pointOrder kept believed n g)
       → pointOf kept believed n g ≡ refused (refusalAt i (pointOrder kept believed n g))
   unfolding pointOf
-  point-refused i f = says-refused i (pointOrder kept believed n g) (curvePoint (profileOf (kept .settings)) (kept .threshold) n g) f
+  point-refused i f = says-refused i (pointOrder kept believed n g) (pointOn kept n g) f
 
   pub point-torn : tornRecord kept ≡ true → pointOf kept believed n g ≡ refused 3
   point-torn e = point-refused 0 e
@@ -179,13 +179,13 @@ module _ (kept : Record) (believed : Shape) (n : ℕ) (g : Histogram) where
             pub point-empty : eqb (totalOf (kept .threshold) (kept .settings .buckets) g) 0 ≡ true → pointOf kept believed n g ≡ refused 9
             point-empty z = point-refused 5 (e, (f, (h, (l, (t, z)))))
 
-  pub point-given : Answered kept believed n g → pointOf kept believed n g ≡ gives (curvePoint (profileOf (kept .settings)) (kept .threshold) n g)
+  pub point-given : Answered kept believed n g → pointOf kept believed n g ≡ gives (pointOn kept n g)
   unfolding pointOf
   point-given a = rw (a .record-whole, a .buckets-long, a .shape-same, a .on-curve, a .report-whole, a .some-total)
 
   pub point-accepted : {p : Point} → pointOf kept believed n g ≡ gives p → Answered kept believed n g
   unfolding pointOf
-  point-accepted e = let w = says-accepted (pointOrder kept believed n g) (curvePoint (profileOf (kept .settings)) (kept .threshold) n g) e in
+  point-accepted e = let w = says-accepted (pointOrder kept believed n g) (pointOn kept n g) e in
       let v = w .1 .1 .1 in
       record {
         record-whole = w .0;
@@ -212,7 +212,7 @@ plotted-says (j ∷ order) p = cases (j .holds) (λ h. rw h) (λ h. rw h (plotte
 
 pub plot-is : (kept : Record) (believed : Shape) (n : ℕ) (g : Histogram) → plotted (pointOf kept believed n g) ≡ plotOf kept believed n g
 unfolding pointOf plotOf
-plot-is kept believed n g = plotted-says (pointOrder kept believed n g) (curvePoint (profileOf (kept .settings)) (kept .threshold) n g)
+plot-is kept believed n g = plotted-says (pointOrder kept believed n g) (pointOn kept n g)
 
 -- ---- what an accepted reference leaves
 

@@ -62,8 +62,12 @@ pointOrder kept believed point g =
     ∷ (refusal.Empty when eqb (totalOf (kept .threshold) (kept .settings .buckets) g) 0)
     ∷ []
 
+-- a point of the record's curve
+abbrev pub pointOn : Record → (point : ℕ) → Histogram → Point
+pointOn kept point g = curvePoint (profileOf (kept .settings)) (kept .threshold) point g
+
 unfoldable pub pointOf : Record → Shape → (point : ℕ) → Histogram → Result Point
-pointOf kept believed point g = says (pointOrder kept believed point g) (curvePoint (profileOf (kept .settings)) (kept .threshold) point g)
+pointOf kept believed point g = says (pointOrder kept believed point g) (pointOn kept point g)
 
 -- the shape that the record itself has
 abbrev pub ownShape : Record → Shape
@@ -75,7 +79,7 @@ ownPoint kept point g = pointOf kept (ownShape kept) point g
 
 -- the same point as a pair of doubles
 unfoldable pub plotOf : Record → Shape → (point : ℕ) → Histogram → Result PlotPoint
-plotOf kept believed point g = says (pointOrder kept believed point g) (plotPoint (curvePoint (profileOf (kept .settings)) (kept .threshold) point g))
+plotOf kept believed point g = says (pointOrder kept believed point g) (plotPoint (pointOn kept point g))
 
 -- ---- trace events
 

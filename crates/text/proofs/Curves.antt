@@ -17,13 +17,13 @@ use Rattle.rules.specs.Settings.{Histogram, mostBuckets}
 use Rattle.rules.specs.Answers.{Result, refused, gives, number}
 use Rattle.rules.specs.Order.{outcome, Judged, _when_, says, NoneHolds}
 use Rattle.rules.specs.Conditions.{bucketsTooShort, tornRecord, tornReport}
-use Rattle.rules.specs.Calls.{pointOf, ownPoint}
+use Rattle.rules.specs.Calls.{pointOn, pointOf, ownPoint}
 use Rattle.rules.proofs.Tests.{cases}
 use Rattle.rules.proofs.Bounds.{whole}
 use Rattle.rules.proofs.Answers.{number-injective}
 use Rattle.rules.proofs.Calls.{own-shape}
 use Rattle.rules.proofs.Order.{not-both, either, says-given, says-refused, says-accepted}
-use Rattle.text.specs.Text.{endLine, emptyLine, firstLine, pointOn, linesTo, noTotal, curveText, curveOrder, curveOf, Given, Judges}
+use Rattle.text.specs.Text.{endLine, emptyLine, firstLine, linesTo, noTotal, curveText, curveOrder, curveOf, Given, Judges}
 use Rattle.text.specs.Text.{Adds, longestCurve, inBuffer, curveIn}
 use Rattle.text.proofs.Laws.{over-all}
 

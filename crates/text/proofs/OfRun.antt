@@ -13,12 +13,13 @@ use Rattle.rules.specs.Settings.{Histogram}
 use Rattle.rules.specs.Curve.{totalOf}
 use Rattle.rules.specs.Answers.{refused, gives}
 use Rattle.rules.specs.Layout.{Tracker}
+use Rattle.rules.specs.Calls.{pointOn}
 use Rattle.rules.specs.History.{Reference}
 use Rattle.rules.proofs.Tests.{cases}
 use Rattle.demands.specs.Runs.{Run}
 use Rattle.demands.proofs.Points.{only-point-or-empty}
 use Rattle.text.specs.Text.{decimalMost, decimal, refsWord, sampledWord, thresholdWord, liveWord, space, newline, endLine, emptyLine}
-use Rattle.text.specs.Text.{firstLine, pointLine, pointOn, linesTo, noTotal, Judges}
+use Rattle.text.specs.Text.{firstLine, pointLine, linesTo, noTotal, Judges}
 use Rattle.text.specs.OfRun.{newlines, OneLine, OfRun}
 use Rattle.text.proofs.Curves.{judgement, point-judges, text-empty, text-points, curve-given}
 

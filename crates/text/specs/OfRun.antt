@@ -9,9 +9,10 @@ use Rattle.rules.specs.Settings.{Histogram}
 use Rattle.rules.specs.Curve.{totalOf}
 use Rattle.rules.specs.Answers.{gives}
 use Rattle.rules.specs.Layout.{Tracker}
+use Rattle.rules.specs.Calls.{pointOn}
 use Rattle.rules.specs.History.{Reference}
 use Rattle.demands.specs.Runs.{Run}
-use Rattle.text.specs.Text.{newline, endLine, emptyLine, firstLine, pointLine, pointOn, linesTo, curveText, curveOf}
+use Rattle.text.specs.Text.{newline, endLine, emptyLine, firstLine, pointLine, linesTo, curveText, curveOf}
 
 -- how many bytes are a newline
 abbrev pub newlines : List ℕ → ℕ

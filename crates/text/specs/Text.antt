@@ -10,12 +10,11 @@ use Rattle.rules.specs.declared.Point.{Point}
 use Rattle.rules.specs.declared.Refusal.the-variants as refusal
 use Rattle.rules.specs.Lists.{over}
 use Rattle.rules.specs.Settings.{Histogram}
-use Rattle.rules.specs.Curve.{totalOf, curvePoint}
+use Rattle.rules.specs.Curve.{totalOf}
 use Rattle.rules.specs.Answers.{Result, gives}
 use Rattle.rules.specs.Order.{Outcome, Judged, _when_, says, byOrder}
-use Rattle.rules.specs.Layout.{profileOf}
 use Rattle.rules.specs.Conditions.{bucketsTooShort, tornRecord, tornReport}
-use Rattle.rules.specs.Calls.{ownPoint}
+use Rattle.rules.specs.Calls.{pointOn, ownPoint}
 
 -- ---- numbers
 
@@ -87,10 +86,6 @@ unfoldable pub refusedLine : (number place : ℕ) → List ℕ
 refusedLine number place = (refusedWord ++ decimal number) ++ ((atWord ++ decimal place) ++ newline)
 
 -- ---- the curve
-
--- point k of the curve
-abbrev pub pointOn : Record → (k : ℕ) → Histogram → Point
-pointOn kept k g = curvePoint (profileOf (kept .settings)) (kept .threshold) k g
 
 -- the lines of the points below n
 unfoldable pub linesTo : ℕ → Record → Histogram → List ℕ

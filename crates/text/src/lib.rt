@@ -13,8 +13,8 @@ ghost use lib.ListN.{length};
 ghost use Rattle.rules.specs.Answers.{gives, pointResult, writtenResult};
 ghost use Rattle.rules.specs.Order.{outcome};
 ghost use Rattle.rules.specs.Layout.{bucketsOf, bucketsBefore};
-ghost use Rattle.rules.specs.Calls.{ownPoint};
-ghost use Rattle.text.specs.Text.{decimal, newline, firstLine, pointLine, pointOn, linesTo, Given, Judges, Adds, curveIn, refusedIn};
+ghost use Rattle.rules.specs.Calls.{pointOn, ownPoint};
+ghost use Rattle.text.specs.Text.{decimal, newline, firstLine, pointLine, linesTo, Given, Judges, Adds, curveIn, refusedIn};
 ghost use Rattle.text.specs.Text.{longestFirst, longestPoint};
 
 // The most bytes that a first line can have, and that the line of a point can have.
@@ -170,8 +170,8 @@ fn put_given(
     Written::Filled(put(out, last, b"end\n"))
 }
 
-// Writes the curve and returns its length. A curve that is refused, or a buffer too short for the longest curve with so many
-// buckets, changes nothing.
+// Writes the curve and returns its length. It is refused, and nothing is changed, if the record is torn, a table is too short, a
+// bucket is torn, or the buffer might be too short for a curve with so many buckets.
 pub fn put_curve(out: &mut [u8], kept: Record, counts: &[u64], thresholds: &[u32]) -> Written
     ensures { λ r. ⌜ outcome (writtenResult r) (now (out .exit)) ≡ curveIn kept (bucketsBefore counts thresholds) (now (out .entry)) ⌝ }
 {

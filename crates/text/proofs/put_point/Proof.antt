@@ -1,14 +1,11 @@
 -- The point is answered, so that its line is put; the other case cannot be.
 use mathlib.Core.Path.{_≡_, sym, ap, _∙_}
-use Rattle.rules.specs.declared.Point.{Point}
 use Rattle.rules.specs.Answers.{gives, pointResult}
+use Rattle.rules.proofs.Answers.{gives-same}
 use Rattle.rules.proofs.Order.{not-both}
 use borrow.Author.Needs.{needs}
 use Rattle.text.proofs.put_point.Statement.{statement}
 use Rattle.text.proofs.put_point.Tie as tie
-
-same : {a b : Point} → gives a ≡ gives b → a ≡ b
-same e = cc
 
 point-at-requires : tie.Need-point-at-requires
 point-at-requires c κs = tt
@@ -30,7 +27,7 @@ returns c =
     let told = c .before .before .before .before .before in
     let asked = told .before .before in
     let answered = sym (ap pointResult (told .p .given .1)) ∙ asked .point-at .ensures ∙ asked .before .before .before .before .pre .1 in
-    (rw (same answered) at (c .before .before .put-point-line .ensures .0), search needs)
+    (rw (gives-same answered) at (c .before .before .put-point-line .ensures .0), search needs)
 
 returns-2 : tie.Need-returns-2
 returns-2 c =
