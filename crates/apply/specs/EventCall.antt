@@ -1,6 +1,5 @@
--- The call that an event stands for, and the event's answer from the answer of that call. Assumes nothing.
-use Prim.Native.Nat.{ℕ}
-use mathlib.Core.List.{List, [], _∷_}
+-- What an event asks for, and its answer from the answer of that call. Assumes nothing.
+use mathlib.Core.Bool.{cond}
 use Rattle.rules.specs.declared.Record.{Record}
 use Rattle.rules.specs.declared.Event.{Event}
 use Rattle.rules.specs.declared.Event.the-variants as event
@@ -12,19 +11,14 @@ use Rattle.rules.specs.declared.Taken.the-variants as taken
 use Rattle.rules.specs.declared.Referred.{Referred}
 use Rattle.rules.specs.declared.Answer.{Answer}
 use Rattle.rules.specs.declared.Answer.the-variants as answer
-use Rattle.rules.specs.Events.{settingsOf, referencesOf}
+use Rattle.rules.specs.Events.{settingsOf, blockOf, blocksIn, overrun}
 use Rattle.apply.specs.declared.Call.{Call}
 use Rattle.apply.specs.declared.Call.the-variants as call
 
--- the first of an event's references; there is at most one
-abbrev pub referring : List ℕ → Call
-referring [] = call.Nothing
-referring (x ∷ rest) = call.Reference x
-
--- the event as one call
+-- what the event asks for: a location is one reference
 abbrev pub callOf : Event → Call
-callOf (event.Location location) = referring (referencesOf (event.Location location))
-callOf (event.Span offset bytes) = referring (referencesOf (event.Span offset bytes))
+callOf (event.Location location) = call.References location 1
+callOf (event.Span offset bytes) = cond (overrun offset bytes) call.Overrun (call.References (blockOf offset) (blocksIn offset bytes))
 callOf event.Restart = call.Restart
 callOf (event.Setup body) = call.Setup (settingsOf body)
 
@@ -33,7 +27,7 @@ abbrev pub startedOn : Record → Started → Applied
 startedOn kept (started.Ready j) = record { kept = j; answer = taken.Whole }
 startedOn kept (started.Refused r) = record { kept = kept; answer = taken.Refused r }
 
--- the answer to an event that stands for one reference
+-- the answer to one reference, as that to an event
 abbrev pub takenOf : Answer → Taken
 takenOf answer.Skipped = taken.Whole
 takenOf (answer.Again d) = taken.Whole

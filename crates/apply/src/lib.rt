@@ -6,6 +6,7 @@ use rules::Event;
 use rules::Hashing;
 use rules::Record;
 use rules::Referred;
+use rules::Refusal;
 use rules::Settings;
 use rules::SetupBody;
 use rules::Started;
@@ -13,21 +14,23 @@ use rules::Taken;
 ghost use mathlib.Core.Path.{_≡_};
 ghost use Rattle.rules.specs.Answers.{takenResult};
 ghost use Rattle.rules.specs.Order.{outcome};
-ghost use Rattle.rules.specs.Events.{settingsOf};
+ghost use Prim.Native.Nat.{_+_, _^_, _≤_};
+ghost use mathlib.Core.Bool.{false};
+ghost use Rattle.rules.specs.Events.{settingsOf, rising, blocksIn, overrun};
 ghost use Rattle.rules.specs.Layout.{trackerAfter, trackerBefore};
-ghost use Rattle.rules.specs.Calls.{applyOf};
+ghost use Rattle.rules.specs.Calls.{referAll, applyOf};
 ghost use Rattle.apply.specs.EventCall.{callOf, startedOn, takenFrom};
 
-// The call that an event stands for: at most one reference, or a fresh start.
+// What an event asks for.
 enum Call {
-    // No call: a span of length 0.
-    Nothing,
-    // A reference to this location.
-    Reference(u64),
+    // A reference to each of so many locations: this one, and those that follow it.
+    References(u64, u64),
     // A fresh start with the record's settings.
     Restart,
     // A fresh start with these settings.
     Setup(Settings),
+    // Nothing: it is a span that passes the last byte.
+    Overrun,
 }
 
 fn settings_of(body: SetupBody) -> Settings
@@ -60,7 +63,7 @@ fn started_over(kept: Record, started: Started) -> Applied
     }
 }
 
-// The answer to an event that stands for one reference.
+// The answer to one reference, as that to an event.
 fn taken(referred: Referred) -> Applied
     ensures { λ r. ⌜ r ≡ takenFrom referred ⌝ }
 {
@@ -86,24 +89,70 @@ fn taken(referred: Referred) -> Applied
     }
 }
 
-// The call that the event stands for. A span refers to the block of its first byte; a span of length 0 refers to nothing.
+// How many blocks hold a byte of the span.
+fn blocks_in(offset: u64, length: u32) -> u64
+    requires { ⌜ overrun offset length ≡ false ⌝ }
+    ensures { λ r. ⌜ r ≡ blocksIn offset length ⌝ }
+{
+    if length == 0 {
+        return 0;
+    }
+    let last = offset + ((length as u64) - 1);
+    last / BLOCK_BYTES - offset / BLOCK_BYTES + 1
+}
+
+// What the event asks for. A span refers to each block that holds one of its bytes, from the first to the last.
 fn call_of(event: Event) -> Call
     ensures { λ r. ⌜ r ≡ callOf event ⌝ }
 {
     match event {
-        Event::Location(location) => Call::Reference(location),
+        Event::Location(location) => Call::References(location, 1),
         Event::Span { offset, length } => {
-            if length == 0 {
-                return Call::Nothing;
+            if judge::overruns(offset, length) {
+                return Call::Overrun;
             }
-            Call::Reference(offset / BLOCK_BYTES)
+            Call::References(offset / BLOCK_BYTES, blocks_in(offset, length))
         }
         Event::Restart => Call::Restart,
         Event::Setup(body) => Call::Setup(settings_of(body)),
     }
 }
 
-// Applies one trace event. `refer` is called in one place only, which lets the compiler keep the record in registers over many events.
+// One reference to each of `number` locations from `first` on, rising, until one is refused. The locations are counted through, never
+// listed. `refer` is called in one place only, which lets the compiler keep the record in registers over many references and events.
+fn refer_each(
+    kept: Record,
+    first: u64,
+    number: u64,
+    locations: &mut [u64],
+    counts: &mut [u64],
+    thresholds: &mut [u32],
+) -> Applied
+    requires { ⌜ first + number ≤ 2 ^ 64 ⌝ }
+    ensures { λ r. ⌜ outcome (takenResult (r .answer)) (trackerAfter (r .kept) locations counts thresholds)
+        ≡ referAll (rising first number) (trackerBefore kept locations counts thresholds) ⌝ }
+{
+    let mut i: u64 = 0;
+    let mut latest = kept;
+    while i < number {
+        let applied = taken(refer::refer(latest, first + i, locations, counts, thresholds));
+        let answer = applied.answer;
+        latest = applied.kept;
+        if let Taken::Refused(why) = answer {
+            return Applied {
+                kept: latest,
+                answer: Taken::Refused(why),
+            };
+        }
+        i += 1;
+    }
+    Applied {
+        kept: latest,
+        answer: Taken::Whole,
+    }
+}
+
+// Applies one trace event.
 pub fn apply(
     kept: Record,
     event: Event,
@@ -115,21 +164,22 @@ pub fn apply(
         ≡ applyOf event (trackerBefore kept locations counts thresholds) ⌝ }
 {
     match call_of(event) {
-        Call::Nothing => Applied {
-            kept: kept,
-            answer: Taken::Whole,
-        },
-        Call::Reference(location) => taken(refer::refer(
+        Call::References(first, number) => refer_each(
             kept,
-            location,
+            first,
+            number,
             locations,
             counts,
             thresholds,
-        )),
+        ),
         Call::Restart => started_over(kept, setup::restart(kept, locations, counts, thresholds)),
         Call::Setup(settings) => started_over(
             kept,
             setup::setup(settings, locations, counts, thresholds),
         ),
+        Call::Overrun => Applied {
+            kept: kept,
+            answer: Taken::Refused(Refusal::Overrun),
+        },
     }
 }

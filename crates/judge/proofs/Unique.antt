@@ -9,6 +9,7 @@ use Rattle.rules.specs.declared.Record.{Record}
 use Rattle.rules.specs.declared.Shape.{Shape}
 use Rattle.rules.specs.Settings.{outOfRange}
 use Rattle.rules.specs.Answers.{number}
+use Rattle.rules.specs.Events.{overrun}
 use Rattle.rules.specs.Layout.{bucketsOf, tablesOf}
 use Rattle.rules.specs.Conditions.{bucketsTooShort, tooShort, tornRecord, full, stale}
 
@@ -35,6 +36,9 @@ too-short-once s locations counts thresholds = once _
 
 pub is-full-once : (n : Numbers) → Once (full n)
 is-full-once n = once _
+
+pub overruns-once : (offset bytes : ℕ) → Once (overrun offset bytes)
+overruns-once offset bytes = once _
 
 pub is-stale-once : (believed : Shape) (s : Settings) → Once (stale believed s)
 is-stale-once believed s = once _

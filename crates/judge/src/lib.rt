@@ -14,6 +14,7 @@ ghost use mathlib.Core.Path.{_≡_};
 ghost use lib.Dec.{ltb};
 ghost use Rattle.rules.specs.Settings.{outOfRange, needed, outside};
 ghost use Rattle.rules.specs.Answers.{number};
+ghost use Rattle.rules.specs.Events.{overrun};
 ghost use Rattle.rules.specs.Layout.{tablesBefore, bucketsBefore};
 ghost use Rattle.rules.specs.Conditions.{bucketsTooShort, tooShort, tornRecord, full, stale};
 
@@ -31,6 +32,7 @@ pub fn number_of(why: Refusal) -> u64
         Refusal::Short => 7,
         Refusal::Kind => 8,
         Refusal::Empty => 9,
+        Refusal::Overrun => 10,
     }
 }
 
@@ -94,6 +96,16 @@ pub fn is_full(n: Numbers) -> bool
     ensures { λ r. ⌜ r ≡ full n ⌝ }
 {
     n.references == MOST_REFERENCES
+}
+
+// Whether a span has bytes and the last of them passes 2^64 - 1. Nothing is added that could wrap.
+pub fn overruns(offset: u64, length: u32) -> bool
+    ensures { λ r. ⌜ r ≡ overrun offset length ⌝ }
+{
+    if length == 0 {
+        return false;
+    }
+    0xffff_ffff_ffff_ffff - offset < (length as u64) - 1
 }
 
 // Whether the believed shape differs from the tracker's.

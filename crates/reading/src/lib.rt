@@ -35,6 +35,9 @@ fn read_span(bytes: &[u8]) -> Reading
     }
     let offset = little_endian::get_eight(bytes, 1);
     let length = little_endian::get_four(bytes, 9);
+    if judge::overruns(offset, length) {
+        return Reading::Refused(Refusal::Overrun);
+    }
     Reading::Got(Event::Span { offset, length }, SPAN_BYTES)
 }
 

@@ -47,7 +47,8 @@ named n =
     (cond (eqb n 5) refusal.Stale
     (cond (eqb n 6) refusal.Point
     (cond (eqb n 7) refusal.Short
-    (cond (eqb n 8) refusal.Kind refusal.Empty)))))))
+    (cond (eqb n 8) refusal.Kind
+    (cond (eqb n 9) refusal.Empty refusal.Overrun))))))))
 
 named-number : (r : Refusal) → named (number r) ≡ r
 unfolding named
@@ -60,6 +61,7 @@ named-number refusal.Point = refl
 named-number refusal.Short = refl
 named-number refusal.Kind = refl
 named-number refusal.Empty = refl
+named-number refusal.Overrun = refl
 
 pub number-injective : (a b : Refusal) → number a ≡ number b → a ≡ b
 number-injective = undone number named named-number
@@ -75,6 +77,7 @@ number-some refusal.Point e = omega arith
 number-some refusal.Short e = omega arith
 number-some refusal.Kind e = omega arith
 number-some refusal.Empty e = omega arith
+number-some refusal.Overrun e = omega arith
 
 pub number-refused : {A : Type 0} (s : Result A) → 0 < numberOf s → s ≡ refused (numberOf s)
 number-refused (refused n) h = refl

@@ -14,6 +14,7 @@ pub mod Fresh
 pub mod Clean
 pub mod Bounds
 pub mod Calls
+pub mod Spans
 pub mod LittleEndian
 pub mod Events
 pub mod Fronts

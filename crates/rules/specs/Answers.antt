@@ -38,6 +38,7 @@ number refusal.Point = 6
 number refusal.Short = 7
 number refusal.Kind = 8
 number refusal.Empty = 9
+number refusal.Overrun = 10
 
 -- 0 where a call is accepted, or the refusal's number
 abbrev pub numberOf : {A : Type 0} → Result A → ℕ

@@ -1,6 +1,7 @@
 -- Document 01, "Refusal numbers": each call as one function from what it is handed to what it answers and leaves, by its order of
 -- refusals. Assumes nothing.
 use Prim.Native.Nat.{ℕ}
+use mathlib.Core.Bool.{cond}
 use mathlib.Core.List.{List, [], _∷_}
 use lib.Dec.{eqb, ltb}
 use Rattle.rules.specs.declared.Settings.{Settings}
@@ -16,7 +17,7 @@ use Rattle.rules.specs.Reference.{Reply, Stepped, step}
 use Rattle.rules.specs.Curve.{totalOf, curvePoint, plotPoint}
 use Rattle.rules.specs.Answers.{Result, refused, gives}
 use Rattle.rules.specs.Order.{Outcome, outcome, Judged, _when_, says, byOrder}
-use Rattle.rules.specs.Events.{settingsOf, referencesOf}
+use Rattle.rules.specs.Events.{settingsOf, referencesOf, overrun}
 use Rattle.rules.specs.Layout.{Tracker, sampleOf, hashFor, profileOf, stored, freshTables, freshRecord}
 use Rattle.rules.specs.Conditions.{bucketsTooShort, tooShort, tornRecord, tornReport, tornFor, full, stale}
 use Rattle.rules.specs.History.{Reference}
@@ -104,9 +105,13 @@ unfoldable pub referAll : List Reference → Tracker → Outcome (Unit {0}) Trac
 referAll [] s = outcome (gives tt) s
 referAll (x ∷ xs) s = goingOn (referOf x s .result) (referOf x s .left) (referAll xs (referOf x s .left))
 
+-- an I/O: 10 before anything else, then its references
+unfoldable pub spanOf : (offset bytes : ℕ) → Tracker → Outcome (Unit {0}) Tracker
+spanOf offset bytes s = cond (overrun offset bytes) (outcome (refused 10) s) (referAll (referencesOf (Span offset bytes)) s)
+
 -- one event
 unfoldable pub applyOf : Event → Tracker → Outcome (Unit {0}) Tracker
 applyOf (Location x) s = referAll (referencesOf (Location x)) s
-applyOf (Span offset bytes) s = referAll (referencesOf (Span offset bytes)) s
+applyOf (Span offset bytes) s = spanOf offset bytes s
 applyOf Restart s = restartOver s
 applyOf (Setup b) s = setupOver (settingsOf b) s

@@ -1,6 +1,6 @@
 -- Document 01, "Trace events". Assumes nothing.
-use Prim.Native.Nat.{ℕ, zero, suc, _+_, _*_, _/_, _%_, _^_, _<_}
-use mathlib.Core.Bool.{Bool, cond, _||_}
+use Prim.Native.Nat.{ℕ, zero, suc, _+_, _-_, _*_, _/_, _%_, _^_, _<_}
+use mathlib.Core.Bool.{Bool, true, false, cond, _||_}
 use mathlib.Core.List.{List, [], _∷_, _++_}
 use lib.Dec.{eqb, ltb}
 use lib.ListN.{length, getD, drop}
@@ -60,12 +60,47 @@ Bytes s = (i : ℕ) → getD s i 0 < 256
 abbrev pub blockBytes : ℕ
 blockBytes = 4096
 
--- the references that an event stands for: kind 1 one, kind 2 one to offset / 4,096, or none if its length is 0
+-- the block that holds a byte
+abbrev pub blockOf : (byte : ℕ) → ℕ
+blockOf byte = byte / blockBytes
+
+-- the last of so many bytes from an offset on
+abbrev pub lastByte : (offset bytes : ℕ) → ℕ
+lastByte offset bytes = offset + bytes - 1
+
+-- so many numbers from a first one on, each one more than the one before
+abbrev pub rising : (from many : ℕ) → List ℕ
+rising from zero = []
+rising from (suc many) = from ∷ rising (suc from) many
+
+-- how many blocks there are from that of the first byte to that of the last: none if there are no bytes
+abbrev pub blocksIn : (offset bytes : ℕ) → ℕ
+blocksIn offset bytes = cond (eqb bytes 0) 0 (suc (blockOf (lastByte offset bytes) - blockOf offset))
+
+-- the references that an event stands for, in their order: kind 1 one, kind 2 one to each block from offset / 4,096 to
+-- (offset + length - 1) / 4,096, rising, or none if its length is 0
 abbrev pub referencesOf : Event → List Reference
 referencesOf (Location x) = x ∷ []
-referencesOf (Span offset bytes) = cond (eqb bytes 0) [] (offset / blockBytes ∷ [])
+referencesOf (Span offset bytes) = rising (blockOf offset) (blocksIn offset bytes)
 referencesOf Restart = []
 referencesOf (Setup b) = []
+
+-- whether an event is a fresh start
+abbrev pub freshStart : Event → Bool
+freshStart (Location x) = false
+freshStart (Span offset bytes) = false
+freshStart Restart = true
+freshStart (Setup b) = true
+
+-- 10: the length is not 0, and offset + length - 1 passes 2^64 - 1
+abbrev pub overrun : (offset bytes : ℕ) → Bool
+overrun offset bytes = cond (eqb bytes 0) false (ltb (2 ^ 64 - 1) (lastByte offset bytes))
+
+abbrev pub overruns : Event → Bool
+overruns (Location x) = false
+overruns (Span offset bytes) = overrun offset bytes
+overruns Restart = false
+overruns (Setup b) = false
 
 -- no kind of event
 abbrev pub unknown : (kind : ℕ) → Bool
@@ -82,20 +117,24 @@ eventOf kind s =
     (cond (eqb kind 2) (Span (numberAt 8 1 s) (numberAt 4 9 s))
     (cond (eqb kind 3) Restart (Setup (setupBodyOf s))))
 
--- reading: 7 if empty, 8, 7
+-- reading: 7 if empty, 8, 7, 10
 abbrev pub readOrder : List ℕ → List Judged
 readOrder s =
     let kind = getD s 0 0 in
-    (refusal.Short when eqb (length s) 0) ∷ (refusal.Kind when unknown kind) ∷ (refusal.Short when ltb (length s) (wholeLength kind)) ∷ []
+    (refusal.Short when eqb (length s) 0)
+    ∷ (refusal.Kind when unknown kind)
+    ∷ (refusal.Short when ltb (length s) (wholeLength kind))
+    ∷ (refusal.Overrun when overruns (eventOf kind s))
+    ∷ []
 
 unfoldable pub readOf : List ℕ → Result Got
 readOf s =
     let kind = getD s 0 0 in
     says (readOrder s) (record { event = eventOf kind s; taken = wholeLength kind })
 
--- an event of n bytes, where they are all there
+-- an event of n bytes, where they are all there and it does not overrun
 abbrev pub ifAllThere : (n : ℕ) → Event → List ℕ → Result Got
-ifAllThere n e s = says ((refusal.Short when ltb (length s) n) ∷ []) (record { event = e; taken = n })
+ifAllThere n e s = says ((refusal.Short when ltb (length s) n) ∷ (refusal.Overrun when overruns e) ∷ []) (record { event = e; taken = n })
 
 -- what is unread: what follows the first event, or all when that is refused
 abbrev pub unreadAfter : Result Got → List ℕ → List ℕ
@@ -105,9 +144,9 @@ unreadAfter (gives g) s = drop (g .taken) s
 abbrev pub unreadOf : List ℕ → List ℕ
 unreadOf s = unreadAfter (readOf s) s
 
--- writing: 2; else exactly the event's length from the front
+-- writing: 10, 2; else exactly the event's length from the front
 abbrev pub writeOrder : Event → List ℕ → List Judged
-writeOrder e buffer = (refusal.Tables when ltb (length buffer) (eventLength e)) ∷ []
+writeOrder e buffer = (refusal.Overrun when overruns e) ∷ (refusal.Tables when ltb (length buffer) (eventLength e)) ∷ []
 
 unfoldable pub writeOf : Event → List ℕ → Outcome ℕ (List ℕ)
 writeOf e buffer = byOrder (writeOrder e buffer) (eventLength e) buffer (over (eventBytes e) buffer)

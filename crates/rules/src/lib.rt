@@ -94,6 +94,8 @@ pub enum Refusal {
     Kind,
     // There is nothing to report.
     Empty,
+    // A span passes the last byte, 2^64 - 1.
+    Overrun,
 }
 
 // The answer to a setup or a restart.
@@ -165,7 +167,7 @@ pub struct SetupBody {
 pub enum Event {
     // One reference to a location.
     Location(u64),
-    // A range of bytes that was read or written.
+    // An I/O: one reference to each block that holds one of its bytes.
     Span { offset: u64, length: u32 },
     // A fresh start with the same settings.
     Restart,
@@ -193,11 +195,11 @@ pub enum Written {
 pub enum Taken {
     // The event was accepted.
     Whole,
-    // The call that it stands for was refused.
+    // It was refused, or one of its references was; those before that one stay counted.
     Refused(Refusal),
 }
 
-// The answer to a trace event, and the record after it.
+// The answer to a trace event, and the record after it, also beside a refusal.
 pub struct Applied {
     pub kept: Record,
     pub answer: Taken,

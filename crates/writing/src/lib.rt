@@ -5,7 +5,7 @@ ghost use lib.ListN.{length};
 ghost use lib.Seq.{sets};
 ghost use Rattle.rules.specs.Answers.{writtenResult};
 ghost use Rattle.rules.specs.Order.{outcome};
-ghost use Rattle.rules.specs.Events.{eventBytes, eventLength, writeOf, Fits};
+ghost use Rattle.rules.specs.Events.{eventBytes, eventLength, overruns, writeOf, Fits};
 use rules::Event;
 use rules::LOCATION_BYTES;
 use rules::RESTART_BYTES;
@@ -78,12 +78,27 @@ fn size(event: Event) -> usize
     }
 }
 
+// Whether the event is a span that overruns.
+fn overruns(event: Event) -> bool
+    ensures { λ r. ⌜ r ≡ overruns event ⌝ }
+{
+    match event {
+        Event::Span { offset, length } => judge::overruns(offset, length),
+        Event::Location(_) => false,
+        Event::Restart => false,
+        Event::Setup(_) => false,
+    }
+}
+
 // Writes the event to the front of the buffer, filling exactly its length, and returns that length. The event's numbers fit their types,
 // as those of any event do; the promise says so, so that what is written is known to be read back.
 pub fn write(event: Event, buffer: &mut [u8]) -> Written
     ensures { λ r. ⌜ outcome (writtenResult r) (now (buffer .exit)) ≡ writeOf event (now (buffer .entry)) ⌝ }
     ensures { λ _. ⌜ Fits event ⌝ }
 {
+    if overruns(event) {
+        return Written::Refused(Refusal::Overrun);
+    }
     let filled = size(event);
     if buffer.len() < filled {
         return Written::Refused(Refusal::Tables);
