@@ -4,6 +4,7 @@ pub mod Alone
 pub mod Points
 pub mod Recency
 pub mod ReadBack
+pub mod Spans
 pub mod Refusing
 pub mod Needed
 pub mod Bench

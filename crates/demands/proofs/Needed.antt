@@ -1,12 +1,10 @@
 -- Entries past the needed ones. A refused call leaves every table; a fresh start writes the needed buckets, a reference at most S locations and
 -- one needed bucket; an event what the call does that it stands for. Assumes nothing.
-use Prim.Native.Nat.{ℕ, _+_, _-_, _/_, _≤_, max}
+use Prim.Native.Nat.{ℕ, _+_, _-_, _≤_, max}
 use mathlib.Core.Path.{_≡_, refl, sym, ap, subst, _∙_}
-use mathlib.Core.Bool.{cond}
 use mathlib.Core.List.{List}
 use mathlib.Core.Option.{Option}
 use native.Mathlib.Omega.{arith}
-use lib.Dec.{eqb}
 use lib.ListN.{length, drop, replicate, length-replicate}
 use lib.Seq.{drop-set-lt, drop-drop}
 use Rattle.rules.specs.declared.Settings.{Settings}
@@ -15,19 +13,20 @@ use Rattle.rules.specs.declared.Event.{Event}
 use Rattle.rules.specs.declared.Event.the-variants.{Location, Span, Restart, Setup}
 use Rattle.rules.specs.Lists.{over}
 use Rattle.rules.specs.Settings.{withDefaults, Histogram, Tables, needed}
-use Rattle.rules.specs.Reference.{Reply, bucketFor, recordIn}
+use Rattle.rules.specs.Reference.{bucketFor, recordIn}
 use Rattle.rules.specs.Answers.{Result, refused, gives}
-use Rattle.rules.specs.Order.{outcome}
-use Rattle.rules.specs.Events.{settingsOf, blockBytes}
+use Rattle.rules.specs.Events.{settingsOf}
 use Rattle.rules.specs.Layout.{Tracker, sampleOf, hashFor, profileOf, stored, freshTables}
-use Rattle.rules.specs.Calls.{setupOf, restartOf, stepOf, referOf, startedOver, goingOn, referAll, applyOf}
-use Rattle.rules.proofs.Tests.{cases}
+use Rattle.rules.specs.Calls.{setupOf, restartOf, stepOf, referOf, startedOver, applyOf}
+use Rattle.rules.specs.History.{Reference}
 use Rattle.rules.proofs.Tables.{over-behind}
 use Rattle.rules.proofs.Bounds.{whole}
 use Rattle.rules.proofs.Clean.{bucket-needed}
 use Rattle.rules.proofs.FullRate.{profile-cut}
 use Rattle.rules.proofs.Calls.{setup-either, restart-either, Accepted, refer-accept, refer-either, live-left, step-buckets}
+use Rattle.demands.specs.Spans.{Made, none, more}
 use Rattle.demands.specs.Needed.{Entries, neededBy, SameBeyond, settingsUnder, OnlyNeeded, mostOf}
+use Rattle.demands.proofs.Spans.{made-settings, events-one-by-one}
 
 pub same-all : (n : Entries) (t : Tables) → SameBeyond n t t
 same-all n t = record { same-locations = refl; same-counts = refl; same-thresholds = refl }
@@ -88,22 +87,32 @@ refer-beyond x s = refer-either x s
     (λ a. rw (refer-accept x s a) (stored-beyond x s a))
     (λ n e. rw e (same-all _ (s .tables)))
 
--- ---- an event: it leaves what the call leaves that it stands for
+-- several, one after the other
+same-both : (n : Entries) (before between after : Tables) → SameBeyond n before between → SameBeyond n between after → SameBeyond n before after
+same-both n before between after a b = record {
+  same-locations = b .same-locations ∙ a .same-locations;
+  same-counts = b .same-counts ∙ a .same-counts;
+  same-thresholds = b .same-thresholds ∙ a .same-thresholds;
+}
 
-going-left : (r : Result Reply) (l : Tracker) → goingOn r l (outcome (gives tt) l) .left ≡ l
-going-left (refused n) l = refl
-going-left (gives a) l = refl
+pub made-beyond : {xs : List Reference} {s after : Tracker} → Made xs s after → SameBeyond (neededBy (s .kept .settings)) (s .tables) (after .tables)
+made-beyond {s = s} none = same-all _ (s .tables)
+made-beyond (more {x} {xs} {r} {s} {middle} {after} e t) =
+    let n = neededBy (s .kept .settings) in
+    same-both n (s .tables) (middle .tables) (after .tables)
+    (subst (λ o. SameBeyond n (s .tables) (o .left .tables)) e (refer-beyond x s))
+    (subst (λ set. SameBeyond (neededBy set) (middle .tables) (after .tables)) (made-settings (more e none)) (made-beyond t))
+
+-- ---- an event: it leaves what the call leaves that it stands for
 
 pub started-tables : (kept : Record) (r : Result Record) (t : Tables) → startedOver kept r t .left .tables ≡ t
 started-tables kept (refused n) t = refl
 started-tables kept (gives a) t = refl
 
 apply-beyond : (e : Event) (s : Tracker) → SameBeyond (neededBy (settingsUnder e (s .kept .settings))) (s .tables) (applyOf e s .left .tables)
-unfolding applyOf referAll
-apply-beyond (Location x) s = rw (going-left (referOf x s .result) (referOf x s .left)) (refer-beyond x s)
-apply-beyond (Span offset bytes) s = cases (eqb bytes 0)
-    (λ z. rw z (same-all _ (s .tables)))
-    (λ z. rw z (let x = offset / blockBytes in rw (going-left (referOf x s .result) (referOf x s .left)) (refer-beyond x s)))
+unfolding applyOf
+apply-beyond (Location x) s = made-beyond (events-one-by-one (Location x) s refl .accepted)
+apply-beyond (Span offset bytes) s = made-beyond (events-one-by-one (Span offset bytes) s refl .accepted)
 apply-beyond Restart s = let o = restartOf (s .kept) (s .tables) in
     rw (started-tables (s .kept) (o .result) (o .left)) (restart-beyond (s .kept) (s .tables))
 apply-beyond (Setup b) s = let o = setupOf (settingsOf b) (s .tables) in

@@ -10,11 +10,11 @@ use Rattle.rules.proofs.Round.{round}
 use Rattle.demands.specs.Statements.{ReadBack, WrittenReadBack}
 
 pub read-back : ReadBack
-read-back e f rest = round e rest f
+read-back e f o rest = round e rest f o
 
 pub written-read-back : WrittenReadBack
 written-read-back e f buffer n said =
     let w : outcome (writtenResult (written.Filled n)) (writeOf e buffer .left) ≡ writeOf e buffer =
     λ i. record { result = sym said i; left = writeOf e buffer .left } in
     let k = write-filled e buffer n (writeOf e buffer .left) w in
-    rw (k .1, k .0) (round e (drop (eventLength e) buffer) f)
+    rw (k .1, k .0) (round e (drop (eventLength e) buffer) f (k .2))

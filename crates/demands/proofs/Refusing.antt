@@ -1,7 +1,8 @@
--- Demand 1. An event has the order of the call that it stands for, so (a) and (b) are `Order`'s laws, and (c) is three cases of the point's
--- call. The one exception: of trackers that agree, each call's order, its step and what it leaves are made of the same parts, so they agree again.
+-- Demand 1. An event but a span has the order of the call that it stands for, so (a) and (b) are `Order`'s laws, and a span is judged reference
+-- by reference; (c) is three cases of the point's call. The one exception: of trackers that agree, each call's order, its step and what it leaves
+-- are made of the same parts, so they agree again.
 -- Assumes nothing.
-use Prim.Native.Nat.{ℕ, _+_, _-_, _/_}
+use Prim.Native.Nat.{ℕ, _+_, _-_}
 use mathlib.Core.Path.{_≡_, refl, sym, ap, subst, subst₂, _∙_}
 use mathlib.Core.Bool.{true, false, cond, not, _||_}
 use mathlib.Core.List.{List, [], _∷_}
@@ -20,31 +21,33 @@ use Rattle.rules.specs.declared.Event.the-variants.{Location, Span, Restart, Se
 use Rattle.rules.specs.Lists.{over}
 use Rattle.rules.specs.Settings.{Histogram, Tables, withDefaults, outOfRange}
 use Rattle.rules.specs.Reference.{Reply, under, firstPlace, bucketFor, step}
-use Rattle.rules.specs.Answers.{refused, gives, number}
-use Rattle.rules.specs.Order.{Judged, _when_, says, leaves}
-use Rattle.rules.specs.Events.{settingsOf, blockBytes}
+use Rattle.rules.specs.Answers.{Result, refused, gives, number}
+use Rattle.rules.specs.Order.{Outcome, Judged, _when_, says, leaves}
+use Rattle.rules.specs.Events.{settingsOf, referencesOf, overrun}
 use Rattle.rules.specs.Layout.{Tracker, hashFor, profileOf, counted, stored, freshBuckets, freshTables, freshRecord, fresh}
 use Rattle.rules.specs.Conditions.{bucketsTooShort, tooShort, tornRecord, tornAt, tornFor, full, stale}
 use Rattle.rules.specs.Calls.{setupOrder, setupOf, restartOrder, restartOf, stepOf, referOrder, referOf, startedOver, goingOn, referAll}
-use Rattle.rules.specs.Calls.{pointOf, plotOf, applyOf}
+use Rattle.rules.specs.Calls.{pointOf, plotOf, spanOf, applyOf}
 use Rattle.rules.specs.History.{Reference}
-use Rattle.rules.proofs.Tests.{cases, or-left, or-right}
-use Rattle.rules.proofs.Order.{not-both, either, says-given, says-refused, leaves-was, leaves-both, says-some}
+use Rattle.rules.proofs.Tests.{cases, clash, or-left, or-right}
+use Rattle.rules.proofs.Order.{not-both, either, says-given, says-refused, leaves-was, leaves-both, says-before, says-behind, says-some}
 use Rattle.rules.proofs.Answers.{pointed-injective, plotted-injective}
 use Rattle.rules.proofs.Bounds.{buckets-none-short}
-use Rattle.rules.proofs.Calls.{sample-stored, point-torn, point-short, point-stale, plot-is}
+use Rattle.rules.proofs.Calls.{refer-accept, refer-either, sample-stored, point-torn, point-short, point-stale, plot-is}
 use Rattle.rules.proofs.Calls.{plotted as plotted-as}
-use Rattle.demands.specs.Refusing.{Untouched, InOrder, NeverZero, applyOrder, ApplyInOrder, AnotherShape, RefusedAs, staleOr}
+use Rattle.rules.proofs.Spans.{all-on, all-refused, all-none}
+use Rattle.demands.specs.Refusing.{isSpan, Untouched, InOrder, NeverZero, referAllOrder, applyOrder, ApplyInOrder}
+use Rattle.demands.specs.Refusing.{AnotherShape, RefusedAs, staleOr}
 use Rattle.demands.specs.Refusing.{StaleByName, StaleInARun}
-use Rattle.demands.specs.Refusing.{Agree, Alike, AgreeAgain}
+use Rattle.demands.specs.Refusing.{Agree, AgreeAgain}
 use Rattle.demands.specs.Runs.{Run}
 use Rattle.demands.proofs.Invariant.{invariant}
 
--- ---- an event has the order of the call that it stands for
+-- ---- an event but a span is one call
 
 abbrev applyAfter : Event → Tracker → Tracker
 applyAfter (Location x) s = stored (stepOf x s) s
-applyAfter (Span offset bytes) s = cond (eqb bytes 0) s (stored (stepOf (offset / blockBytes) s) s)
+applyAfter (Span offset bytes) s = s
 applyAfter Restart s = fresh (s .kept .settings) (s .tables)
 applyAfter (Setup b) s = fresh (withDefaults (settingsOf b)) (s .tables)
 
@@ -58,14 +61,14 @@ started-is : (order : List Judged) (kept r : Record) (t u : Tables) → startedO
 started-is [] kept r t u = refl
 started-is (j ∷ order) kept r t u = cases (j .holds) (λ h. rw h) (λ h. rw h (started-is order kept r t u))
 
-apply-is : (e : Event) (s : Tracker) → applyOf e s ≡ record { result = says (applyOrder e s) tt; left = leaves (applyOrder e s) s (applyAfter e s) }
+apply-is : (e : Event) (s : Tracker) → isSpan e ≡ false
+    → applyOf e s ≡ record { result = says (applyOrder e s) tt; left = leaves (applyOrder e s) s (applyAfter e s) }
 unfolding applyOf referAll referOf restartOf setupOf
-apply-is (Location x) s = one-is (referOrder x s) (stepOf x s .reply) (leaves (referOrder x s) s (stored (stepOf x s) s))
-apply-is (Span offset bytes) s = cases (eqb bytes 0) (λ z. rw z)
-    (λ z. rw z (let x = offset / blockBytes in one-is (referOrder x s) (stepOf x s .reply) (leaves (referOrder x s) s (stored (stepOf x s) s))))
-apply-is Restart s = let set = s .kept .settings in
+apply-is (Location x) s one = one-is (referOrder x s) (stepOf x s .reply) (leaves (referOrder x s) s (stored (stepOf x s) s))
+apply-is (Span offset bytes) s one = clash refl one
+apply-is Restart s one = let set = s .kept .settings in
     started-is (restartOrder (s .kept) (s .tables)) (s .kept) (freshRecord set) (s .tables) (freshTables set (s .tables))
-apply-is (Setup b) s = let set = withDefaults (settingsOf b) in
+apply-is (Setup b) s one = let set = withDefaults (settingsOf b) in
     started-is (setupOrder (settingsOf b) (s .tables)) (s .kept) (freshRecord set) (s .tables) (freshTables set (s .tables))
 
 -- ---- (a)
@@ -74,13 +77,9 @@ pub untouched : Untouched
 untouched = record {
   by-order = leaves-was;
   by-apply =
-      λ e s n r. ap (λ o. o .left) (apply-is e s)
-      ∙ leaves-was (applyOrder e s) tt s (applyAfter e s) n (sym (ap (λ o. o .result) (apply-is e s)) ∙ r);
+      λ e s n one r. ap (λ o. o .left) (apply-is e s one)
+      ∙ leaves-was (applyOrder e s) tt s (applyAfter e s) n (sym (ap (λ o. o .result) (apply-is e s one)) ∙ r);
 }
-
--- no event is refused 0
-pub apply-some : (e : Event) (s : Tracker) → applyOf e s .result ≡ refused 0 → ⊥
-apply-some e s r = says-some (applyOrder e s) tt (sym (ap (λ o. o .result) (apply-is e s)) ∙ r)
 
 -- ---- (b)
 
@@ -96,8 +95,31 @@ in-order = record {
 pub never-zero : NeverZero
 never-zero A order a = says-some order a
 
+-- each reference is judged by its own order, on what those before it left
+all-in-order : (xs : List Reference) (s : Tracker) → referAll xs s .result ≡ says (referAllOrder xs s) tt
+unfolding referOf
+all-in-order [] s = ap (λ o. o .result) (all-none s)
+all-in-order (x ∷ xs) s = refer-either x s
+    (λ a. let is = refer-accept x s a in
+    ap (λ o. o .result) (all-on x xs s is) ∙ all-in-order xs (stored (stepOf x s) s)
+    ∙ ap (λ l. says (referAllOrder xs l) tt) (sym (ap (λ o. o .left) is))
+    ∙ sym (says-behind (referOrder x s) (referAllOrder xs (referOf x s .left)) tt
+    (a .record-whole, (a .tables-long, (a .room, (a .bucket-sound, tt))))))
+    (λ n e. ap (λ o. o .result) (all-refused x xs s e)
+    ∙ sym (says-before (referOrder x s) (referAllOrder xs (referOf x s .left)) (stepOf x s .reply) tt (ap (λ o. o .result) e)))
+
 pub apply-in-order : ApplyInOrder
-apply-in-order e s = ap (λ o. o .result) (apply-is e s)
+unfolding applyOf spanOf
+apply-in-order (Location x) s = ap (λ o. o .result) (apply-is (Location x) s refl)
+apply-in-order (Span offset bytes) s = cases (overrun offset bytes)
+    (λ o. rw o)
+    (λ o. rw o (all-in-order (referencesOf (Span offset bytes)) s))
+apply-in-order Restart s = ap (λ o. o .result) (apply-is Restart s refl)
+apply-in-order (Setup b) s = ap (λ o. o .result) (apply-is (Setup b) s refl)
+
+-- no event is refused 0
+pub apply-some : (e : Event) (s : Tracker) → applyOf e s .result ≡ refused 0 → ⊥
+apply-some e s r = says-some (applyOrder e s) tt (sym (apply-in-order e s) ∙ r)
 
 -- ---- (c)
 
@@ -141,6 +163,10 @@ stale-in-a-run past s run believed n d = subst (λ why. RefusedAs why (s .kept) 
 
 over-lengths : (l a b : List ℕ) → length a ≡ length b → length (over l a) ≡ length (over l b)
 over-lengths l a b e = simp (length-append, length-drop) (ap (λ n. length l + (n - length l)) e)
+
+-- two calls that answer the same, and leave what agrees
+abbrev BothAlike : Outcome (Unit {0}) Tracker → Outcome (Unit {0}) Tracker → Type 0
+BothAlike o p = (o .result ≡ p .result) × Agree (o .left) (p .left)
 
 module _ (s t : Tracker) (a : Agree s t) where
   same-settings : s .kept .settings ≡ t .kept .settings
@@ -200,18 +226,6 @@ module _ (s t : Tracker) (a : Agree s t) where
   setup-order : (given : Settings) → setupOrder given (s .tables) ≡ setupOrder given (t .tables)
   setup-order given = λ i. (refusal.Settings when outOfRange (withDefaults given)) ∷ (refusal.Tables when short (withDefaults given) _ refl i) ∷ []
 
-  apply-order : (e : Event) → applyOrder e s ≡ applyOrder e t
-  apply-order (Location x) = refer-order x
-  apply-order (Span offset bytes) = ap (cond (eqb bytes 0) []) (refer-order (offset / blockBytes))
-  apply-order Restart = restart-order
-  apply-order (Setup b) = setup-order (settingsOf b)
-
-  apply-after : (e : Event) → Agree (applyAfter e s) (applyAfter e t)
-  apply-after (Location x) = stored-agree x
-  apply-after (Span offset bytes) = cases (eqb bytes 0) (λ z. rw z a) (λ z. rw z (stored-agree (offset / blockBytes)))
-  apply-after Restart = fresh-alike _ _ same-settings
-  apply-after (Setup b) = fresh-alike _ _ refl
-
   -- and so agree in what they leave
   left-agree : (order order' : List Judged) (u v : Tracker) → order ≡ order' → Agree u v → Agree (leaves order s u) (leaves order' t v)
   left-agree order order' u v e b = leaves-both Agree order order' s u t v e a b
@@ -222,20 +236,56 @@ module _ (s t : Tracker) (a : Agree s t) where
       (s .tables) (freshTables set (s .tables)) (t .tables) (freshTables set' (t .tables)) e (a .same-buckets)
       (λ i. freshBuckets (f i) (a .same-buckets i))
 
-  pub alike : Alike s t
-  unfolding setupOf restartOf referOf
-  alike = record {
-    refer-says = λ x i. says (refer-order x i) (same-step x i .reply);
-    refer-leaves = λ x. left-agree (referOrder x s) (referOrder x t) _ _ (refer-order x) (stored-agree x);
-    restart-says = λ i. says (restart-order i) (freshRecord (same-settings i));
-    restart-leaves = buckets-agree _ _ _ _ restart-order same-settings;
-    setup-says = λ given i. says (setup-order given i) (freshRecord (withDefaults given));
-    setup-leaves = λ given. buckets-agree _ _ (withDefaults given) _ (setup-order given) refl;
-    apply-says = λ e. ap (λ o. o .result) (apply-is e s) ∙ ap (λ l. says l tt) (apply-order e) ∙ sym (ap (λ o. o .result) (apply-is e t));
-    apply-leaves =
-        λ e. subst₂ Agree (sym (ap (λ o. o .left) (apply-is e s))) (sym (ap (λ o. o .left) (apply-is e t)))
-        (left-agree _ _ _ _ (apply-order e) (apply-after e));
-  }
+  -- a reference
+  refer-says : (x : ℕ) → referOf x s .result ≡ referOf x t .result
+  unfolding referOf
+  refer-says x = λ i. says (refer-order x i) (same-step x i .reply)
+
+  refer-leaves : (x : ℕ) → Agree (referOf x s .left) (referOf x t .left)
+  unfolding referOf
+  refer-leaves x = left-agree (referOrder x s) (referOrder x t) _ _ (refer-order x) (stored-agree x)
+
+  -- an event that is one call, by its order and by what it leaves where it is accepted
+  one-alike : (e : Event) → isSpan e ≡ false → applyOrder e s ≡ applyOrder e t → Agree (applyAfter e s) (applyAfter e t)
+      → BothAlike (applyOf e s) (applyOf e t)
+  one-alike e one order after = (
+    ap (λ o. o .result) (apply-is e s one) ∙ ap (λ l. says l tt) order ∙ sym (ap (λ o. o .result) (apply-is e t one)),
+    subst₂ Agree (sym (ap (λ o. o .left) (apply-is e s one))) (sym (ap (λ o. o .left) (apply-is e t one))) (left-agree _ _ _ _ order after),
+  )
+
+-- references one after the other: each is answered alike, and what it leaves agrees again
+going-alike : (r : Result Reply) (l k : Tracker) (o p : Outcome (Unit {0}) Tracker) → Agree l k → BothAlike o p
+    → BothAlike (goingOn r l o) (goingOn r k p)
+going-alike (refused n) l k o p a b = (refl, a)
+going-alike (gives reply) l k o p a b = b
+
+all-alike : (xs : List Reference) (s t : Tracker) → Agree s t → BothAlike (referAll xs s) (referAll xs t)
+unfolding referAll
+all-alike [] s t a = (refl, a)
+all-alike (x ∷ xs) s t a =
+    let l = referOf x s .left in
+    let k = referOf x t .left in
+    subst (λ r. BothAlike (referAll (x ∷ xs) s) (goingOn r k (referAll xs k))) (refer-says s t a x)
+    (going-alike (referOf x s .result) l k (referAll xs l) (referAll xs k) (refer-leaves s t a x) (all-alike xs l k (refer-leaves s t a x)))
+
+apply-alike : (e : Event) (s t : Tracker) → Agree s t → BothAlike (applyOf e s) (applyOf e t)
+unfolding applyOf spanOf
+apply-alike (Location x) s t a = all-alike (x ∷ []) s t a
+apply-alike (Span offset bytes) s t a = cases (overrun offset bytes)
+    (λ o. rw o (refl, a))
+    (λ o. rw o (all-alike (referencesOf (Span offset bytes)) s t a))
+apply-alike Restart s t a = one-alike s t a Restart refl (restart-order s t a) (fresh-alike s t a _ _ (same-settings s t a))
+apply-alike (Setup b) s t a = one-alike s t a (Setup b) refl (setup-order s t a (settingsOf b)) (fresh-alike s t a _ _ refl)
 
 pub agree-again : AgreeAgain
-agree-again = alike
+unfolding setupOf restartOf
+agree-again s t a = record {
+  refer-says = refer-says s t a;
+  refer-leaves = refer-leaves s t a;
+  restart-says = λ i. says (restart-order s t a i) (freshRecord (same-settings s t a i));
+  restart-leaves = buckets-agree s t a _ _ _ _ (restart-order s t a) (same-settings s t a);
+  setup-says = λ given i. says (setup-order s t a given i) (freshRecord (withDefaults given));
+  setup-leaves = λ given. buckets-agree s t a _ _ (withDefaults given) _ (setup-order s t a given) refl;
+  apply-says = λ e. apply-alike e s t a .0;
+  apply-leaves = λ e. apply-alike e s t a .1;
+}

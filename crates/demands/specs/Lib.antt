@@ -1,5 +1,6 @@
 pub mod Runs
 pub mod Statements
+pub mod Spans
 pub mod Refusing
 pub mod Needed
 pub mod Bench

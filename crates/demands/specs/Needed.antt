@@ -11,6 +11,7 @@ use Rattle.rules.specs.Settings.{withDefaults, Tables, needed}
 use Rattle.rules.specs.Events.{settingsOf}
 use Rattle.rules.specs.Layout.{Tracker}
 use Rattle.rules.specs.Calls.{setupOf, restartOf, referOf, applyOf}
+use Rattle.rules.specs.History.{Reference}
 
 -- a number of entries of the location table, and one of each bucket table
 pub record Entries : Type 0 where
@@ -41,10 +42,11 @@ pub record OnlyNeeded : Type 0 where
   pub by-refer : (x : ℕ) (s : Tracker) → SameBeyond (neededBy (s .kept .settings)) (s .tables) (referOf x s .left .tables)
   pub by-apply : (e : Event) (s : Tracker) → SameBeyond (neededBy (settingsUnder e (s .kept .settings))) (s .tables) (applyOf e s .left .tables)
 
--- the most that is needed by any of the settings under which one of the events was taken
+-- the most that is needed by any of the settings under which one of the events was taken, and then these references made
 abbrev pub mostOf : Entries → Entries → Entries
 mostOf n m = record { of-locations = max (n .of-locations) (m .of-locations); of-buckets = max (n .of-buckets) (m .of-buckets) }
 
-abbrev pub mostNeeded : List Event → Settings → Entries
-mostNeeded [] s = record { of-locations = 0; of-buckets = 0 }
-mostNeeded (e ∷ es) s = mostOf (neededBy (settingsUnder e s)) (mostNeeded es (settingsUnder e s))
+abbrev pub mostNeeded : List Event → List Reference → Settings → Entries
+mostNeeded [] [] s = record { of-locations = 0; of-buckets = 0 }
+mostNeeded [] (x ∷ made) s = neededBy s
+mostNeeded (e ∷ es) made s = mostOf (neededBy (settingsUnder e s)) (mostNeeded es made (settingsUnder e s))

@@ -1,9 +1,8 @@
 -- Demand 1 over the definitions: who refuses, under which number, and that nothing is changed by it. Assumes nothing.
-use Prim.Native.Nat.{ℕ, _/_}
+use Prim.Native.Nat.{ℕ}
 use mathlib.Core.Path.{_≡_}
-use mathlib.Core.Bool.{cond}
-use mathlib.Core.List.{List, []}
-use lib.Dec.{eqb}
+use mathlib.Core.Bool.{Bool, true, false, cond}
+use mathlib.Core.List.{List, [], _∷_, _++_}
 use lib.ListN.{length}
 use Rattle.rules.specs.declared.Settings.{Settings}
 use Rattle.rules.specs.declared.Record.{Record}
@@ -18,8 +17,8 @@ use Rattle.rules.specs.declared.Event.{Event}
 use Rattle.rules.specs.declared.Event.the-variants.{Location, Span, Restart, Setup}
 use Rattle.rules.specs.Settings.{Histogram}
 use Rattle.rules.specs.Answers.{refused, gives, pointResult, plotResult}
-use Rattle.rules.specs.Order.{Judged, says, byOrder, NoneHolds, FirstAt, refusalAt}
-use Rattle.rules.specs.Events.{settingsOf, blockBytes}
+use Rattle.rules.specs.Order.{Judged, _when_, says, byOrder, NoneHolds, FirstAt, refusalAt}
+use Rattle.rules.specs.Events.{settingsOf, referencesOf, overrun}
 use Rattle.rules.specs.Layout.{Tracker, liveOf}
 use Rattle.rules.specs.Conditions.{bucketsTooShort, tornRecord}
 use Rattle.rules.specs.Calls.{setupOrder, setupOf, restartOrder, restartOf, referOrder, referOf, pointOf, plotOf, applyOf}
@@ -27,12 +26,18 @@ use Rattle.rules.specs.History.{Reference}
 use Rattle.demands.specs.Runs.{Run}
 
 -- ---- (a) "A refusal gives its number and leaves every table and buffer untouched.": a law of any order, and so of each call that is
--- defined by one; an event stands for one of those
+-- defined by one, and of every event but a span; a span's references are made one by one, each such a call (specs/Spans)
+
+abbrev pub isSpan : Event → Bool
+isSpan (Location x) = false
+isSpan (Span offset bytes) = true
+isSpan Restart = false
+isSpan (Setup b) = false
 
 pub record Untouched : Type 1 where
   pub by-order : {A S : Type 0} (order : List Judged) (a : A) (was after : S) (n : ℕ)
       → byOrder order a was after .result ≡ refused n → byOrder order a was after .left ≡ was
-  pub by-apply : (e : Event) (s : Tracker) (n : ℕ) → applyOf e s .result ≡ refused n → applyOf e s .left ≡ s
+  pub by-apply : (e : Event) (s : Tracker) (n : ℕ) → isSpan e ≡ false → applyOf e s .result ≡ refused n → applyOf e s .left ≡ s
 
 -- ---- (b) "Each is given exactly under its condition", and no earlier one in that call's order: laws of any order
 
@@ -51,10 +56,15 @@ pub record InOrder : Type 1 where
 abbrev pub NeverZero : Type 1
 NeverZero = (A : Type 0) (order : List Judged) (a : A) → says order a ≡ refused 0 → ⊥
 
--- an event has the order of the call that it stands for; a span of length 0 stands for none
+-- references one after the other: each is judged on what those before it left
+abbrev pub referAllOrder : List Reference → Tracker → List Judged
+referAllOrder [] s = []
+referAllOrder (x ∷ xs) s = referOrder x s ++ referAllOrder xs (referOf x s .left)
+
+-- an event has the order of the call that it stands for; a span 10, and then the orders of its references
 abbrev pub applyOrder : Event → Tracker → List Judged
 applyOrder (Location x) s = referOrder x s
-applyOrder (Span offset bytes) s = cond (eqb bytes 0) [] (referOrder (offset / blockBytes) s)
+applyOrder (Span offset bytes) s = (refusal.Overrun when overrun offset bytes) ∷ referAllOrder (referencesOf (Span offset bytes)) s
 applyOrder Restart s = restartOrder (s .kept) (s .tables)
 applyOrder (Setup b) s = setupOrder (settingsOf b) (s .tables)
 

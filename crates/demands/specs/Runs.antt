@@ -20,6 +20,11 @@ pub data Run : List Reference → Tracker → Type 0 where
   refer : {past : List Reference} {s after : Tracker} {x : Reference} {r : Reply}
       → Run past s → referOf x s ≡ outcome (gives r) after → Run (x ∷ past) after
 
+-- references, given oldest first, put in front of a past that is newest first
+abbrev pub onto : List Reference → List Reference → List Reference
+onto [] past = past
+onto (x ∷ xs) past = onto xs (x ∷ past)
+
 -- the answers of a run, newest first
 abbrev pub answers : {past : List Reference} {s : Tracker} → Run past s → List Reply
 answers (setup given t e) = []

@@ -1,7 +1,7 @@
 -- Demands 2 and 3 over whole runs, in their own words. The proofs stand in proofs/. Assumes nothing.
 use Prim.Native.Nat.{ℕ, _-_, _*_, _≤_, _<_}
 use mathlib.Core.Path.{_≡_}
-use mathlib.Core.Bool.{Bool, true, cond}
+use mathlib.Core.Bool.{Bool, true, false, cond}
 use mathlib.Core.List.{List, [], _∷_, _++_}
 use lib.Dec.{ltb, eqb}
 use lib.ListN.{length}
@@ -13,7 +13,7 @@ use Rattle.rules.specs.Reference.{Reply, skipped, first, again, countAt, thresh
 use Rattle.rules.specs.Curve.{rawTo, totalOf}
 use Rattle.rules.specs.Answers.{refused, gives}
 use Rattle.rules.specs.Order.{outcome}
-use Rattle.rules.specs.Events.{eventBytes, eventLength, Fits, readOf, writeOf}
+use Rattle.rules.specs.Events.{eventBytes, eventLength, Fits, overruns, readOf, writeOf}
 use Rattle.rules.specs.Layout.{Tracker, liveOf, hashFor, profileOf}
 use Rattle.rules.specs.Calls.{setupOf, restartOf, referOf, pointOn, ownPoint}
 use Rattle.rules.specs.History.{recency, distance, Largest, Reference, location, locations}
@@ -87,9 +87,9 @@ FullRate = (past : List Reference) (s : Tracker) → Run past s → s .kept .set
     → length (recency (locations past)) ≤ s .kept .settings .limit
     → (k : ℕ) → k ≤ s .kept .settings .buckets → LikeLru past s k
 
--- "Trace events written are read back the same.": with their length, any bytes behind them
+-- "Trace events written are read back the same.": with their length, any bytes behind them; one that overruns is not written
 abbrev pub ReadBack : Type 0
-ReadBack = (e : Event) → Fits e → (rest : List ℕ) → readOf (eventBytes e ++ rest) ≡ gives (record { event = e; taken = eventLength e })
+ReadBack = (e : Event) → Fits e → overruns e ≡ false → (rest : List ℕ) → readOf (eventBytes e ++ rest) ≡ gives (record { event = e; taken = eventLength e })
 
 abbrev pub WrittenReadBack : Type 0
 WrittenReadBack = (e : Event) → Fits e → (buffer : List ℕ) (n : ℕ) → writeOf e buffer .result ≡ gives n

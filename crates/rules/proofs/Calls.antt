@@ -247,7 +247,7 @@ step-buckets P hash limit f x s same one = cases (under hash (s .threshold) x)
     (λ m. rw (step-first hash limit f x s e m, within-limit-histogram hash limit (s .threshold) (x ∷ s .live)) (one none)))
     (λ e. rw (step-skipped hash limit f x s e) same)
 
-counted-references : (r : Reply) (n : Numbers) → counted r n .references ≡ n .references + 1
+pub counted-references : (r : Reply) (n : Numbers) → counted r n .references ≡ n .references + 1
 counted-references skipped n = refl
 counted-references first n = refl
 counted-references (again d) n = refl

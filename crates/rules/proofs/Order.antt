@@ -1,7 +1,7 @@
 -- Laws of any order of refusals, by induction on the order: its first condition holds, or the rest decides. Assumes nothing.
 use Prim.Native.Nat.{ℕ, zero, suc}
 use mathlib.Core.Path.{_≡_, refl, subst}
-use mathlib.Core.List.{List, [], _∷_}
+use mathlib.Core.List.{List, [], _∷_, _++_}
 use native.Mathlib.Omega.{arith}
 use Rattle.rules.specs.Answers.{Result, refused, gives}
 use Rattle.rules.specs.Order.{Judged, says, leaves, NoneHolds, FirstAt, refusalAt}
@@ -50,6 +50,17 @@ leaves-both P order order' was after was' after' e p q = subst (λ l. P (leaves 
     in-one-order : (l : List Judged) → P (leaves l was after) (leaves l was' after')
     in-one-order [] = q
     in-one-order (j ∷ l) = cases (j .holds) (λ h. rw h p) (λ h. rw h (in-one-order l))
+
+-- an order after an order: the first that holds of the one before decides, or else the one behind
+pub says-before : {A B : Type 0} (order rest : List Judged) (a : A) (b : B) {n : ℕ} → says order a ≡ refused n → says (order ++ rest) b ≡ refused n
+says-before [] rest a b e = absurd (not-both e refl)
+says-before (j ∷ order) rest a b e = cases (j .holds)
+    (λ h. let q = rw h at e in rw h (cc))
+    (λ h. rw h (says-before order rest a b (rw h at e)))
+
+pub says-behind : {A : Type 0} (order rest : List Judged) (a : A) → NoneHolds order → says (order ++ rest) a ≡ says rest a
+says-behind [] rest a w = refl
+says-behind (j ∷ order) rest a w = rw (w .0) (says-behind order rest a (w .1))
 
 -- no refusal is numbered 0
 pub says-some : {A : Type 0} (order : List Judged) (a : A) → says order a ≡ refused 0 → ⊥
