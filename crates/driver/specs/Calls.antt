@@ -2,7 +2,6 @@
 use Prim.Native.Nat.{ℕ}
 use mathlib.Core.Bool.{cond}
 use mathlib.Core.List.{List, [], _∷_, _++_}
-use lib.Dec.{eqb}
 use denote.Ref.{now}
 use Rattle.rules.specs.declared.Settings.{Settings}
 use Rattle.rules.specs.declared.Shape.{Shape}
@@ -12,9 +11,9 @@ use Rattle.rules.specs.declared.Refusal.the-variants as refusal
 use Rattle.rules.specs.Settings.{hashOf, withDefaults, outOfRange, Histogram, Tables}
 use Rattle.rules.specs.Answers.{Result, refused, gives, number, numberOf, Got}
 use Rattle.rules.specs.Order.{Outcome, outcome, Judged, _when_, byOrder}
-use Rattle.rules.specs.Events.{writeOf, readOf}
+use Rattle.rules.specs.Events.{overrun, writeOf, readOf}
 use Rattle.rules.specs.Layout.{Tracker, Lent, tablesBefore, tablesAfter, fresh}
-use Rattle.rules.specs.Calls.{setupOrder, restartOver, referOf, pointOf, plotOf, applyOf}
+use Rattle.rules.specs.Calls.{setupOrder, restartOver, referOf, spanOf, pointOf, plotOf, applyOf}
 use Rattle.feed.specs.Feed.{Feeding, feedOf}
 use Rattle.words.specs.declared.AnswerWords.{AnswerWords}
 use Rattle.words.specs.declared.PointWords.{PointWords}
@@ -23,12 +22,12 @@ use Rattle.words.specs.declared.EventWords.{EventWords}
 use Rattle.words.specs.declared.AppliedWords.{AppliedWords}
 use Rattle.words.specs.declared.WrittenWords.{WrittenWords}
 use Rattle.words.specs.declared.FedWords.{FedWords}
-use Rattle.words.specs.Words.{fewWords, recordOf, put, storedIf, Returned, returned}
+use Rattle.words.specs.Words.{fewWords, recordOf, put, Returned, returned}
 use Rattle.words.specs.Words.{answerWords, pointWords, plotWords, eventWords, appliedWords, writtenWords, fedWords}
 
 -- the version of the interface
 abbrev pub version : ℕ
-version = 1
+version = 2
 
 -- the hash of a location
 abbrev pub hashIn : (kind location : ℕ) → ℕ
@@ -60,9 +59,9 @@ trackerIn h = record { kept = recordOf (h .words); tables = h .tables }
 abbrev pub returning : {A B S : Type 0} → (Result A → B) → Outcome A S → Returned B S
 returning words o = returned (words (o .result)) (o .left)
 
--- an accepted call stores its record's words; a refused one stores nothing
+-- the words of the record that the call leaves, also beside a refusal: a refused call but that of a span leaves the record as it was
 abbrev pub keeping : {A : Type 0} → Held → Outcome A Tracker → Outcome A Held
-keeping h o = outcome (o .result) (held (storedIf (eqb (numberOf (o .result)) 0) (o .left .kept) (h .words)) (o .left .tables))
+keeping h o = outcome (o .result) (held (put (o .left .kept) (h .words)) (o .left .tables))
 
 -- too few words for a record: every call but setup answers 2, before all else
 abbrev pub onHeld : {A : Type 0} → (Tracker → Outcome A Tracker) → Held → Outcome A Held
@@ -95,6 +94,10 @@ restartIn h = returning numberOf (onHeld restartOver h)
 abbrev pub referIn : (location : ℕ) → Held → Returned AnswerWords Held
 referIn x h = returning answerWords (onHeld (referOf x) h)
 
+-- an I/O: 10 before all else
+abbrev pub spanIn : (offset bytes : ℕ) → Held → Returned ℕ Held
+spanIn offset bytes h = returning numberOf (cond (overrun offset bytes) (outcome (refused 10) h) (onHeld (spanOf offset bytes) h))
+
 -- ---- points
 
 abbrev pub pointIn : (words : List ℕ) → Shape → (point : ℕ) → Histogram → PointWords
@@ -118,12 +121,15 @@ applyGot (gives g) s = outcome (giving (g .taken) (applyOf (g .event) s .result)
 abbrev pub applyIn : (bytes : List ℕ) → Held → Returned AppliedWords Held
 applyIn bytes h = returning appliedWords (onHeld (applyGot (readOf bytes)) h)
 
--- what the events before a refused one did stays
+-- what the events before a refused one did stays, and so do the references of the refused one that were accepted
 abbrev pub fedIn : Held → Feeding → Returned FedWords Held
 fedIn h f = returned (fedWords (f .taken) (f .result)) (held (put (f .left .kept) (h .words)) (f .left .tables))
 
+abbrev pub fedFrom : (bytes : List ℕ) → Held → Returned FedWords Held
+fedFrom bytes h = fedIn h (feedOf bytes (trackerIn h))
+
 abbrev pub feedIn : (bytes : List ℕ) → Held → Returned FedWords Held
-feedIn bytes h = cond (fewWords (h .words)) (returned (fedWords 0 (refused 2)) h) (fedIn h (feedOf bytes (trackerIn h)))
+feedIn bytes h = cond (fewWords (h .words)) (returned (fedWords 0 (refused 2)) h) (fedFrom bytes h)
 
 abbrev pub readIn : (bytes : List ℕ) → EventWords
 readIn bytes = eventWords (readOf bytes)

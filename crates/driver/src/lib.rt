@@ -1,6 +1,7 @@
 // The C interface; include/rockgingham.h documents it for C programmers. Every function accepts any values. Every call but the hash and the
 // version returns a refusal, 0 if it was accepted, alone or as the first field of what it gives. A refused call stores nothing, except that
-// feed keeps what the events before the refused one did.
+// feed keeps what the events before the refused one did, and of a refused span, here or as an event, the references accepted before the
+// refused one stay counted.
 use feed::Ending;
 use refer::Skipping;
 use rules::Answer;
@@ -39,10 +40,10 @@ ghost use Rattle.rules.specs.Layout.{bucketsBefore};
 ghost use Rattle.words.specs.Words.{settingsFrom, shapeFrom, returned};
 ghost use Rattle.driver.specs.Calls.{version, heldBefore, heldAfter, setupBodyFrom, fewForSetup};
 ghost use Rattle.rules.specs.Events.{Fits};
-ghost use Rattle.driver.specs.Calls.{hashIn, setupIn, restartIn, referIn, pointIn, plotIn, applyIn, feedIn, readIn, writeIn};
+ghost use Rattle.driver.specs.Calls.{hashIn, setupIn, restartIn, referIn, spanIn, pointIn, plotIn, applyIn, fedFrom, feedIn, readIn, writeIn};
 
 // The version of this interface. It is part of the exported names of setup, apply and feed: the calls that can set a tracker up.
-const VERSION: u64 = 1;
+const VERSION: u64 = 2;
 
 #[no_mangle]
 pub extern "C" fn rockgingham_version() -> u64
@@ -73,7 +74,7 @@ fn few_for_setup(settings: Settings) -> u64
 
 // A fresh start with these settings.
 #[no_mangle]
-pub extern "C" fn rockgingham_setup_v1(
+pub extern "C" fn rockgingham_setup_v2(
     words: &mut [u64],
     asked: AskedSettings,
     locations: &[u64],
@@ -136,6 +137,50 @@ pub extern "C" fn rockgingham_refer(
     given
 }
 
+// Feeds the bytes, and stores the record if that changed it: an event was taken, or a reference of the refused one was accepted. Each call
+// that applies an event comes here: `feed`, and `apply` in its loop, are compiled once, with the record kept in registers.
+fn feed_stored(
+    words: &mut [u64],
+    bytes: &[u8],
+    locations: &mut [u64],
+    counts: &mut [u64],
+    thresholds: &mut [u32],
+) -> FedWords
+    ensures { λ r. ⌜ returned r (heldAfter words locations counts thresholds)
+        ≡ fedFrom (now (bytes .entry)) (heldBefore words locations counts thresholds) ⌝ }
+{
+    let kept = record_of(words);
+    let fed = feed::feed(kept, bytes, locations, counts, thresholds);
+    let ending = fed.ending;
+    let counted = fed.kept.numbers.references != kept.numbers.references;
+    store_if(words, (fed.taken != 0) | counted, fed.kept);
+    fed_words(fed.taken, ending)
+}
+
+// One I/O: a reference to each block that holds one of its bytes, as in its event, which is fed.
+#[no_mangle]
+pub extern "C" fn rockgingham_refer_span(
+    words: &mut [u64],
+    offset: u64,
+    length: u32,
+    locations: &mut [u64],
+    counts: &mut [u64],
+    thresholds: &mut [u32],
+) -> u64
+    ensures { λ r. ⌜ returned r (heldAfter words locations counts thresholds)
+        ≡ spanIn offset length (heldBefore words locations counts thresholds) ⌝ }
+{
+    if judge::overruns(offset, length) {
+        return judge::number_of(Refusal::Overrun);
+    }
+    if too_few(words) {
+        return judge::number_of(Refusal::Tables);
+    }
+    let mut event: [u8; 13] = [0; 13];
+    writing::write(Event::Span { offset, length }, &mut event);
+    feed_stored(words, &event, locations, counts, thresholds).refusal
+}
+
 // ---- points
 
 // A point: its size, hits, misses and total.
@@ -176,9 +221,9 @@ pub extern "C" fn rockgingham_plot(
 
 // ---- trace events
 
-// Applies the first event of the bytes, by feeding that event alone: `apply`, called from `feed` only, is compiled into its loop.
+// Applies the first event of the bytes.
 #[no_mangle]
-pub extern "C" fn rockgingham_apply_v1(
+pub extern "C" fn rockgingham_apply_v2(
     words: &mut [u64],
     bytes: &[u8],
     locations: &mut [u64],
@@ -192,21 +237,20 @@ pub extern "C" fn rockgingham_apply_v1(
         return applied_words(fed_words(0, Ending::Refused(Refusal::Tables)));
     }
     match reading::read(bytes) {
-        Reading::Got(_, taken) => {
-            let event = &bytes[..taken];
-            let fed = feed::feed(record_of(words), event, locations, counts, thresholds);
-            let ending = fed.ending;
-            let given = fed_words(fed.taken, ending);
-            store_if(words, fed.taken != 0, fed.kept);
-            applied_words(given)
-        }
+        Reading::Got(_, taken) => applied_words(feed_stored(
+            words,
+            &bytes[..taken],
+            locations,
+            counts,
+            thresholds,
+        )),
         Reading::Refused(why) => applied_words(fed_words(0, Ending::Refused(why))),
     }
 }
 
 // Applies event after event, until the bytes end, end inside an event, or an event is refused.
 #[no_mangle]
-pub extern "C" fn rockgingham_feed_v1(
+pub extern "C" fn rockgingham_feed_v2(
     words: &mut [u64],
     bytes: &[u8],
     locations: &mut [u64],
@@ -219,10 +263,7 @@ pub extern "C" fn rockgingham_feed_v1(
     if too_few(words) {
         return fed_words(0, Ending::Refused(Refusal::Tables));
     }
-    let fed = feed::feed(record_of(words), bytes, locations, counts, thresholds);
-    let ending = fed.ending;
-    store_if(words, fed.taken != 0, fed.kept);
-    fed_words(fed.taken, ending)
+    feed_stored(words, bytes, locations, counts, thresholds)
 }
 
 // The first event of the bytes: its kind, how many bytes it took, and its numbers.

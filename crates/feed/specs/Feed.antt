@@ -64,9 +64,14 @@ onward (gives e) taken bytes more s = further taken (feedOf (drop taken bytes ++
 abbrev pub resumed : Feeding → (bytes more : List ℕ) → Feeding
 resumed f bytes more = onward (f .result) (f .taken) bytes more (f .left)
 
--- feeding just the bytes that were taken: whatever ended it, those bytes end after a whole event, and leave the same
-abbrev pub justTaken : Feeding → Feeding
-justTaken f = record { taken = f .taken; result = gives whole; left = f .left }
+-- all of so many bytes were taken, and left this
+abbrev pub allTaken : (taken : ℕ) → Tracker → Feeding
+allTaken taken s = record { taken = taken; result = gives whole; left = s }
+
+-- what the first event of some bytes leaves: nothing is changed by one that cannot be read
+abbrev pub leftBy : Result Got → Tracker → Tracker
+leftBy (refused n) s = s
+leftBy (gives g) s = applyOf (g .event) s .left
 
 -- ---- what the code returns, with the tables as the call left them
 

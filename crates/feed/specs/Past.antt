@@ -2,22 +2,17 @@
 use Prim.Native.Nat.{ℕ}
 use mathlib.Core.Path.{_≡_}
 use mathlib.Core.Bool.{Bool, true, false, _||_}
-use mathlib.Core.List.{List, [], _∷_}
+use mathlib.Core.List.{List, [], _∷_, _++_}
 use lib.ListN.{take, drop}
 use Rattle.rules.specs.declared.Event.{Event}
 use Rattle.rules.specs.declared.Event.the-variants.{Location, Span, Restart, Setup}
-use Rattle.rules.specs.Answers.{gives, Got}
-use Rattle.rules.specs.Events.{readOf, referencesOf}
+use Rattle.rules.specs.Answers.{Result, refused, gives, Got}
+use Rattle.rules.specs.Events.{readOf, referencesOf, freshStart}
 use Rattle.rules.specs.Layout.{Tracker}
 use Rattle.rules.specs.History.{Reference}
-use Rattle.demands.specs.Runs.{Run}
+use Rattle.demands.specs.Runs.{Run, onto}
 use Rattle.demands.specs.Needed.{SameBeyond, mostNeeded}
 use Rattle.feed.specs.Feed.{Feeding}
-
--- references, given oldest first, put in front of a past that is newest first
-abbrev pub onto : List Reference → List Reference → List Reference
-onto [] past = past
-onto (x ∷ xs) past = onto xs (x ∷ past)
 
 -- the references since the last fresh start, newest first, after one more event
 abbrev pub pastAfter : Event → List Reference → List Reference
@@ -31,14 +26,7 @@ abbrev pub pastOf : List Event → List Reference → List Reference
 pastOf [] past = past
 pastOf (e ∷ es) past = pastOf es (pastAfter e past)
 
--- whether an event is a fresh start
-abbrev pub freshStart : Event → Bool
-freshStart (Location x) = false
-freshStart (Span offset bytes) = false
-freshStart Restart = true
-freshStart (Setup b) = true
-
--- whether one of the events is
+-- whether one of the events is a fresh start
 abbrev pub anyFreshStart : List Event → Bool
 anyFreshStart [] = false
 anyFreshStart (e ∷ es) = freshStart e || anyFreshStart es
@@ -48,11 +36,21 @@ pub data Events : List ℕ → List Event → Type 0 where
   none : Events [] []
   one : {bytes : List ℕ} {g : Got} {es : List Event} → readOf bytes ≡ gives g → Events (drop (g .taken) bytes) es → Events bytes (g .event ∷ es)
 
--- what feeding s left: with the events that were taken it continues any run that left s; and if one of them was a fresh start, it is
--- what a run left, whatever s was; entries past the most that any settings needed under which an event was taken are as they were
+-- the references of the first event, if it can be read
+abbrev pub referencesNext : Result Got → List Reference
+referencesNext (refused n) = []
+referencesNext (gives g) = referencesOf (g .event)
+
+-- what feeding s left: with the events that were taken, and then the accepted references of one that was refused, it continues any run that
+-- left s; and if one of the events was a fresh start, it is what a run left, whatever s was; entries past the most that any settings needed
+-- under which an event was taken or a reference made are as they were
 pub record Ran (bytes : List ℕ) (s : Tracker) (f : Feeding) : Type 0 where
   pub events : List Event
   pub are : Events (take (f .taken) bytes) events
-  pub continued : (past : List Reference) → Run past s → Run (pastOf events past) (f .left)
-  pub from-fresh-start : anyFreshStart events ≡ true → (past : List Reference) → Run (pastOf events past) (f .left)
-  pub only-needed : SameBeyond (mostNeeded events (s .kept .settings)) (s .tables) (f .left .tables)
+  -- the accepted ones come first among the references of the event behind the bytes taken
+  pub made : List Reference
+  pub rest : List Reference
+  pub first-part : made ++ rest ≡ referencesNext (readOf (drop (f .taken) bytes))
+  pub continued : (past : List Reference) → Run past s → Run (onto made (pastOf events past)) (f .left)
+  pub from-fresh-start : anyFreshStart events ≡ true → (past : List Reference) → Run (onto made (pastOf events past)) (f .left)
+  pub only-needed : SameBeyond (mostNeeded events made (s .kept .settings)) (s .tables) (f .left .tables)

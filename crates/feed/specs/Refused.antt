@@ -10,17 +10,20 @@ use Rattle.rules.specs.Order.{Judged, _when_}
 use Rattle.rules.specs.Events.{readOf}
 use Rattle.rules.specs.Layout.{Tracker}
 use Rattle.demands.specs.Refusing.{applyOrder, FirstIs}
-use Rattle.feed.specs.Feed.{Feeding, feedOf, justTaken}
+use Rattle.feed.specs.Feed.{Feeding, feedOf, allTaken, leftBy}
 
--- the refusals of the next event: 8, then those of the call that it stands for; an incomplete event has none yet
+-- the refusals of the next event: 8, 10, then those of the calls that it stands for; an incomplete event has none yet
 abbrev pub nextOrder : Result Got → Tracker → List Judged
-nextOrder (refused n) s = (refusal.Kind when eqb n 8) ∷ []
+nextOrder (refused n) s = (refusal.Kind when eqb n 8) ∷ (refusal.Overrun when eqb n 10) ∷ []
 nextOrder (gives g) s = applyOrder (g .event) s
 
--- the bytes that were taken, fed alone, are accepted to their end and leave the same; of the event behind them, n is the first refusal
+-- the bytes that were taken, fed alone, are accepted to their end; of the event behind them, on what they left, n is the first refusal,
+-- and what that event leaves is left
 pub record RefusedAfter (n : ℕ) (bytes : List ℕ) (s : Tracker) (f : Feeding) : Type 0 where
-  pub before : feedOf (take (f .taken) bytes) s ≡ justTaken f
-  pub next : FirstIs n (nextOrder (readOf (drop (f .taken) bytes)) (f .left))
+  pub between : Tracker
+  pub before : feedOf (take (f .taken) bytes) s ≡ allTaken (f .taken) between
+  pub next : FirstIs n (nextOrder (readOf (drop (f .taken) bytes)) between)
+  pub left-is : f .left ≡ leftBy (readOf (drop (f .taken) bytes)) between
 
 -- feeding is refused n only so, and always so
 pub record FeedInOrder : Type 0 where

@@ -14,7 +14,7 @@ pub enum Ending {
     Whole,
     // They end inside an event, which was not taken.
     Inside,
-    // An event could not be read, or the call that it stands for was refused.
+    // An event could not be read, or was refused. The references of a span that were accepted before one was refused stay counted.
     Refused(Refusal),
 }
 

@@ -11,8 +11,8 @@ use Rattle.words.specs.Words.{appliedWords, appliedFrom}
 use Rattle.driver.specs.Calls.{held, applyGot}
 use Rattle.driver.proofs.Laws.{too-few, apply-unread, apply-stored}
 use borrow.Author.Needs.{needs}
-use Rattle.driver.proofs.rockgingham_apply_v1.Statement.{statement}
-use Rattle.driver.proofs.rockgingham_apply_v1.Tie as tie
+use Rattle.driver.proofs.rockgingham_apply_v2.Statement.{statement}
+use Rattle.driver.proofs.rockgingham_apply_v2.Tie as tie
 
 too-few-requires : tie.Need-too-few-requires
 too-few-requires c κs = tt
@@ -103,8 +103,8 @@ returns-3 c =
     (sym (read .read .ensures) ∙ ap readingResult (c .before .before .before .why .given .1))
     (c .applied-words3 .ensures ∙ ap appliedFrom (c .before .fed-words3 .ensures))
 
-pub rockgingham-apply-v1-spec : {M : Type 1} → statement M
-rockgingham-apply-v1-spec =
+pub rockgingham-apply-v2-spec : {M : Type 1} → statement M
+rockgingham-apply-v2-spec =
     tie.close
     (tie.spec
     too-few-requires

@@ -5,8 +5,8 @@ use Rattle.rules.specs.Layout.{tablesOf}
 use Rattle.driver.specs.Calls.{held}
 use Rattle.driver.proofs.Laws.{feed-few, feed-stored}
 use borrow.Author.Needs.{needs}
-use Rattle.driver.proofs.rockgingham_feed_v1.Statement.{statement}
-use Rattle.driver.proofs.rockgingham_feed_v1.Tie as tie
+use Rattle.driver.proofs.rockgingham_feed_v2.Statement.{statement}
+use Rattle.driver.proofs.rockgingham_feed_v2.Tie as tie
 
 too-few-requires : tie.Need-too-few-requires
 too-few-requires c κs = tt
@@ -54,8 +54,8 @@ returns-2 c =
     (rw (called .before .before .before .before .record-of .ensures) at (called .feed .ensures))
     (c .fed-words2 .ensures) (c .before .before .before .store-if .ensures)
 
-pub rockgingham-feed-v1-spec : {M : Type 1} → statement M
-rockgingham-feed-v1-spec =
+pub rockgingham-feed-v2-spec : {M : Type 1} → statement M
+rockgingham-feed-v2-spec =
     tie.close
     (tie.spec
     too-few-requires

@@ -3,8 +3,8 @@ use mathlib.Core.Path.{sym, ap, _∙_}
 use Rattle.driver.specs.Calls.{fewForSetup}
 use Rattle.driver.proofs.Laws.{setup-few, setup-stored}
 use borrow.Author.Needs.{needs}
-use Rattle.driver.proofs.rockgingham_setup_v1.Statement.{statement}
-use Rattle.driver.proofs.rockgingham_setup_v1.Tie as tie
+use Rattle.driver.proofs.rockgingham_setup_v2.Statement.{statement}
+use Rattle.driver.proofs.rockgingham_setup_v2.Tie as tie
 
 settings-from-requires : tie.Need-settings-from-requires
 settings-from-requires c κs = tt
@@ -45,8 +45,8 @@ returns-2 c =
     setup-stored _ _ (sym (judged .too-few .ensures) ∙ called .before .before .before .if1 .left)
     (rw (judged .before .before .settings-from .ensures) at (called .setup .ensures)) (c .before .before .store-started .ensures)
 
-pub rockgingham-setup-v1-spec : {M : Type 1} → statement M
-rockgingham-setup-v1-spec =
+pub rockgingham-setup-v2-spec : {M : Type 1} → statement M
+rockgingham-setup-v2-spec =
     tie.close
     (tie.spec
     settings-from-requires
