@@ -1,9 +1,10 @@
--- One trace event, by what it asks: an event is the call that it asks for (`done-is`, by its kind), and what the call answers, taken over, is
--- what the rules say, by the cases of the answer. Assumes nothing.
-use Prim.Native.Nat.{ℕ}
+-- One trace event, by what it asks for: an event is that call (`done-is`, by its kind), and what the call answers, taken over, is what the rules
+-- say, by the cases of the answer. Assumes nothing.
+use Prim.Native.Nat.{ℕ, _+_, _<_, _≤_, _^_}
 use mathlib.Core.Path.{_≡_, refl, sym, ap, _∙_}
+use mathlib.Core.Bool.{Bool, true, false}
 use mathlib.Core.List.{List, [], _∷_}
-use lib.Dec.{eqb}
+use native.Mathlib.Omega.{arith}
 use Rattle.rules.specs.declared.Record.{Record}
 use Rattle.rules.specs.declared.Settings.{Settings}
 use Rattle.rules.specs.declared.Event.{Event}
@@ -11,18 +12,26 @@ use Rattle.rules.specs.declared.Event.the-variants as event
 use Rattle.rules.specs.declared.Started.{Started}
 use Rattle.rules.specs.declared.Started.the-variants as started
 use Rattle.rules.specs.declared.Applied.{Applied}
+use Rattle.rules.specs.declared.Refusal.{Refusal}
+use Rattle.rules.specs.declared.Taken.{Taken}
+use Rattle.rules.specs.declared.Taken.the-variants as taken
 use Rattle.rules.specs.declared.Referred.{Referred}
 use Rattle.rules.specs.declared.Answer.{Answer}
 use Rattle.rules.specs.declared.Answer.the-variants as answer
 use Rattle.rules.specs.Settings.{Tables}
-use Rattle.rules.specs.Answers.{gives, replyResult, takenResult, startedResult}
+use Rattle.rules.specs.Reference.{Reply, skipped, first, again}
+use Rattle.rules.specs.Answers.{refused, gives, number, replyResult, takenResult, startedResult}
 use Rattle.rules.specs.Order.{Outcome, outcome}
+use Rattle.rules.specs.Events.{Fits, blockOf, rising, blocksIn, overrun}
 use Rattle.rules.specs.Layout.{Tracker, tracker, tablesOf}
-use Rattle.rules.specs.Calls.{setupOf, restartOf, referOf, startedOver, goingOn, referAll, applyOf}
-use Rattle.rules.proofs.Tests.{cases}
+use Rattle.rules.specs.Calls.{setupOf, restartOf, referOf, startedOver, referAll, spanOf, applyOf}
+use Rattle.rules.proofs.Tests.{cases, clash}
+use Rattle.rules.proofs.Answers.{refused-same}
+use Rattle.rules.proofs.Order.{not-both}
+use Rattle.rules.proofs.Spans.{blocks-fit, Going, goes-on, goes-refused}
 use Rattle.apply.specs.declared.Call.{Call}
 use Rattle.apply.specs.declared.Call.the-variants as call
-use Rattle.apply.specs.EventCall.{callOf, startedOn, takenOf, takenFrom}
+use Rattle.apply.specs.EventCall.{callOf, startedOn, takenOf}
 
 -- what an applied event answers and leaves
 abbrev outcomeOf : Applied → (ls cs ts : List ℕ) → Outcome (Unit {0}) Tracker
@@ -30,33 +39,41 @@ outcomeOf a ls cs ts = outcome (takenResult (a .answer)) (tracker (a .kept) ls c
 
 -- the rules' outcome of a call
 abbrev doneOf : Call → Tracker → Outcome (Unit {0}) Tracker
-doneOf call.Nothing s = record { result = gives tt; left = s }
-doneOf (call.Reference x) s = referAll (x ∷ []) s
+doneOf (call.References from many) s = referAll (rising from many) s
 doneOf call.Restart s = let b = restartOf (s .kept) (s .tables) in startedOver (s .kept) (b .result) (b .left)
 doneOf (call.Setup given) s = let b = setupOf given (s .tables) in startedOver (s .kept) (b .result) (b .left)
+doneOf call.Overrun s = outcome (refused 10) s
 
 -- an event asks for what the rules make of it
 done-is : (e : Event) (s : Tracker) → doneOf (callOf e) s ≡ applyOf e s
-unfolding applyOf referAll
+unfolding applyOf spanOf
 done-is (event.Location x) s = refl
-done-is (event.Span offset bytes) s = cases (eqb bytes 0) (λ z. rw z) (λ z. rw z)
+done-is (event.Span offset bytes) s = cases (overrun offset bytes) (λ o. rw o) (λ o. rw o)
 done-is event.Restart s = refl
 done-is (event.Setup b) s = refl
 
--- a list of one reference
-one-reference : (x : ℕ) (s : Tracker) (r : Referred) (ls cs ts : List ℕ)
-    → outcome (replyResult (r .answer)) (tracker (r .kept) ls cs ts) ≡ referOf x s
-    → outcomeOf (takenFrom r) ls cs ts ≡ referAll (x ∷ []) s
-unfolding referAll
-one-reference x s r ls cs ts e = taken-is (r .answer) ∙ ap (λ o. goingOn (o .result) (o .left) (record { result = gives tt; left = o .left })) e
-  where
-    taken-is : (a : Answer)
-        → outcome (takenResult (takenOf a)) (tracker (r .kept) ls cs ts)
-        ≡ goingOn (replyResult a) (tracker (r .kept) ls cs ts) (record { result = gives tt; left = tracker (r .kept) ls cs ts })
-    taken-is answer.Skipped = refl
-    taken-is (answer.Again d) = refl
-    taken-is answer.First = refl
-    taken-is (answer.Refused w) = refl
+-- ---- one reference of many, by its answer
+
+reply-of : (a : Answer) → takenOf a ≡ taken.Whole → (reply : Reply) × (replyResult a ≡ gives reply)
+reply-of answer.Skipped t = (skipped, refl)
+reply-of (answer.Again d) t = (again d, refl)
+reply-of answer.First t = (first, refl)
+reply-of (answer.Refused why) t = absurd (not-both refl (ap takenResult t))
+
+refusal-of : (a : Answer) (why : Refusal) → takenOf a ≡ taken.Refused why → replyResult a ≡ refused (number why)
+refusal-of answer.Skipped why t = absurd (not-both (ap takenResult t) refl)
+refusal-of (answer.Again d) why t = absurd (not-both (ap takenResult t) refl)
+refusal-of answer.First why t = absurd (not-both (ap takenResult t) refl)
+refusal-of (answer.Refused w) why t = ap refused (refused-same (ap takenResult t))
+
+module _ {from many : ℕ} {before : Tracker} {i : ℕ} {s : Tracker} (w : Going from many before i s) (some : i < many)
+    (r : Referred) (ls cs ts : List ℕ) (is : outcome (replyResult (r .answer)) (tracker (r .kept) ls cs ts) ≡ referOf (from + i) s) where
+  pub taken-goes-on : takenOf (r .answer) ≡ taken.Whole → Going from many before (i + 1) (tracker (r .kept) ls cs ts)
+  taken-goes-on t = goes-on w some (sym is ∙ ap (λ z. outcome z (tracker (r .kept) ls cs ts)) (reply-of (r .answer) t .1))
+
+  pub taken-refused : (why : Refusal) → takenOf (r .answer) ≡ taken.Refused why
+      → outcome (refused (number why)) (tracker (r .kept) ls cs ts) ≡ referAll (rising from many) before
+  taken-refused why t = sym (goes-refused w some (sym is ∙ ap (λ z. outcome z (tracker (r .kept) ls cs ts)) (refusal-of (r .answer) why t)))
 
 -- a start, over a tracker that had the record `kept`
 one-start : (kept : Record) (b : Outcome Record Tables) (r : Started) (ls cs ts : List ℕ) → outcome (startedResult r) (tablesOf ls cs ts) ≡ b
@@ -74,13 +91,14 @@ module _ (e : Event) (s : Tracker) (a : Call) (is : a ≡ callOf e) where
   call-is : doneOf a s ≡ applyOf e s
   call-is = ap (λ z. doneOf z s) is ∙ done-is e s
 
-  pub apply-nothing : a ≡ call.Nothing → record { result = gives tt; left = s } ≡ applyOf e s
-  apply-nothing p = ap (λ z. doneOf z s) (sym p) ∙ call-is
+  pub apply-overrun : a ≡ call.Overrun → outcome (refused 10) s ≡ applyOf e s
+  apply-overrun p = ap (λ z. doneOf z s) (sym p) ∙ call-is
+
+  pub apply-references : (from many : ℕ) {o : Outcome (Unit {0}) Tracker} → a ≡ call.References from many → o ≡ referAll (rising from many) s
+      → o ≡ applyOf e s
+  apply-references from many p q = q ∙ ap (λ z. doneOf z s) (sym p) ∙ call-is
 
   module _ (ls cs ts : List ℕ) where
-    pub apply-reference : (x : ℕ) (r : Referred) → a ≡ call.Reference x → outcome (replyResult (r .answer)) (tracker (r .kept) ls cs ts) ≡ referOf x s
-        → outcomeOf (takenFrom r) ls cs ts ≡ applyOf e s
-    apply-reference x r p q = one-reference x s r ls cs ts q ∙ ap (λ z. doneOf z s) (sym p) ∙ call-is
 
     pub apply-restart : (r : Started) → a ≡ call.Restart → outcome (startedResult r) (tablesOf ls cs ts) ≡ restartOf (s .kept) (s .tables)
         → outcomeOf (startedOn (s .kept) r) ls cs ts ≡ applyOf e s
@@ -90,3 +108,37 @@ module _ (e : Event) (s : Tracker) (a : Call) (is : a ≡ callOf e) where
         → outcome (startedResult r) (tablesOf ls cs ts) ≡ setupOf given (s .tables)
         → outcomeOf (startedOn (s .kept) r) ls cs ts ≡ applyOf e s
     apply-setup given r p q = one-start (s .kept) (setupOf given (s .tables)) r ls cs ts q ∙ ap (λ z. doneOf z s) (sym p) ∙ call-is
+
+-- ---- the locations fit 64 bits
+
+abbrev firstOf : Call → ℕ
+firstOf (call.References from many) = from
+firstOf call.Restart = 0
+firstOf (call.Setup given) = 0
+firstOf call.Overrun = 0
+
+abbrev references : Call → Bool
+references (call.References from many) = true
+references call.Restart = false
+references (call.Setup given) = false
+references call.Overrun = false
+
+no-references : {a : Call} {from many : ℕ} → a ≡ call.References from many → references a ≡ false → ⊥
+no-references e f = clash (ap references e) f
+
+abbrev manyOf : Call → ℕ
+manyOf (call.References from many) = many
+manyOf call.Restart = 0
+manyOf (call.Setup given) = 0
+manyOf call.Overrun = 0
+
+pub call-fits : (e : Event) (from many : ℕ) → Fits e → callOf e ≡ call.References from many → from + many ≤ 2 ^ 64
+call-fits (event.Location x) from many f is = let p : x ≡ from = ap firstOf is in let q : 1 ≡ many = ap manyOf is in omega arith
+call-fits (event.Span offset bytes) from many f is = cases (overrun offset bytes)
+    (λ o. absurd (no-references (rw o at is) refl))
+    (λ o. let z : call.References (blockOf offset) (blocksIn offset bytes) ≡ call.References from many = rw o at is in
+    let p : blockOf offset ≡ from = ap firstOf z in
+    let q : blocksIn offset bytes ≡ many = ap manyOf z in
+    omega (arith, blocks-fit offset bytes (f .0) o))
+call-fits event.Restart from many f is = absurd (no-references is refl)
+call-fits (event.Setup b) from many f is = absurd (no-references is refl)

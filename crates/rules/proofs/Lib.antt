@@ -17,6 +17,7 @@ pub mod Calls
 pub mod Spans
 pub mod LittleEndian
 pub mod Events
+pub mod HeldEvents
 pub mod Fronts
 pub mod Round
 pub mod Report

@@ -1,6 +1,6 @@
--- By the kind of event, and a span by whether it has bytes; each case computes.
-use borrow.Author.Tests.{eq-eqb, ne-eqb}
+-- By the kind of event, and a span by whether it overruns; each case computes.
 use borrow.Author.Needs.{needs}
+use mathlib.Core.Path.{sym, _∙_}
 use Rattle.apply.proofs.call_of.Statement.{statement}
 use Rattle.apply.proofs.call_of.Tie as tie
 
@@ -10,8 +10,14 @@ enum-known-event c = search needs
 enum-known-event-2 : tie.Need-enum-known-event-2
 enum-known-event-2 c = search needs
 
+overruns-requires : tie.Need-overruns-requires
+overruns-requires c κs = search needs
+
 returns : tie.Need-returns
-returns c = rw (c .before .before .event2 .given .1, eq-eqb _ _ (c .if1 .taken))
+returns c = rw (c .before .before .before .event2 .given .1, ← c .before .overruns .ensures, c .if1 .taken)
+
+blocks-in-requires : tie.Need-blocks-in-requires
+blocks-in-requires c κs = sym (c .before .overruns .ensures) ∙ c .if1 .left
 
 enum-told : tie.Need-enum-told
 enum-told c = search needs
@@ -26,7 +32,7 @@ returns-2 : tie.Need-returns-2
 returns-2 c = rw (c .before .event .given .1)
 
 returns-3 : tie.Need-returns-3
-returns-3 c = rw (c .before .before .event2 .given .1, ne-eqb _ _ (c .if1 .left))
+returns-3 c = rw (c .before .before .before .before .event2 .given .1, ← c .before .before .overruns .ensures, c .before .if1 .left, c .blocks-in .ensures)
 
 returns-4 : tie.Need-returns-4
 returns-4 c = rw (c .enum-told .given .1)
@@ -40,7 +46,9 @@ call-of-spec =
     (tie.spec
     enum-known-event
     enum-known-event-2
+    overruns-requires
     returns
+    blocks-in-requires
     enum-told
     enum-known-event-3
     settings-of-requires
