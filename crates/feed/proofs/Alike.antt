@@ -38,11 +38,11 @@ feed-agrees = by-feeding (λ bytes s f. (t : Tracker) → Agree s t → FedAlike
     (λ s t a. both-stop (gives whole) s t _ (feed-none [] t refl) a)
     (λ bytes s some e t a. both-stop (gives inside) s t _ (feed-reads bytes t some (refused 7) e) a)
     (λ bytes s n other some e t a. both-stop (refused n) s t _ (feed-reads bytes t some (refused n) e ∙ rw (ne-eqb n 7 other)) a)
-    (λ bytes s g n e q t a.
-    let left = applyOf (g .event) t .left in
-    both-stop (refused n) s left _
-    (other-reads bytes g e s t a ∙ ap (λ o. afterEvent feedOf (g .taken) bytes (o .result) left) q)
-    (still bytes g e s t a s (ap (λ o. o .left) q)))
+    (λ bytes s g n left e q t a.
+    let other = applyOf (g .event) t .left in
+    both-stop (refused n) left other _
+    (other-reads bytes g e s t a ∙ ap (λ o. afterEvent feedOf (g .taken) bytes (o .result) other) (q .is))
+    (still bytes g e s t a left (ap (λ o. o .left) (q .is))))
     (λ bytes s g left e took h t a.
     let next = applyOf (g .event) t .left in
     subst (FedAlike (further (g .taken) (feedOf (drop (g .taken) bytes) left)))

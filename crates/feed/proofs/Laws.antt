@@ -1,9 +1,9 @@
 -- How feeding goes, event by event, and one way to show a thing of every feeding (`by-feeding`). By induction on the number of bytes: an event
 -- that is read takes at least one, so fewer are left. Assumes nothing.
-use Prim.Native.Nat.{ℕ, zero, suc, _/_, _≤_, _<_}
-use mathlib.Core.Path.{_≡_, refl, ap, _∙_}
-use mathlib.Core.Bool.{true, false, cond}
-use mathlib.Core.List.{List, [], _∷_}
+use Prim.Native.Nat.{ℕ, zero, suc, _≤_, _<_}
+use mathlib.Core.Path.{_≡_, refl, sym, ap, subst, subst₂, _∙_}
+use mathlib.Core.Bool.{Bool, true, false, cond}
+use mathlib.Core.List.{List, [], _∷_, _++_, append-nil}
 use native.Mathlib.Nat.{not-suc-le-zero}
 use native.Mathlib.Omega.{arith}
 use lib.Dec.{eqb}
@@ -14,18 +14,20 @@ use Rattle.rules.specs.declared.Event.the-variants.{Location, Span, Restart, Se
 use Rattle.rules.specs.Settings.{withDefaults}
 use Rattle.rules.specs.Answers.{Result, refused, gives, Got}
 use Rattle.rules.specs.Order.{Outcome, outcome}
-use Rattle.rules.specs.Events.{readOf, settingsOf, blockBytes}
-use Rattle.rules.specs.Layout.{Tracker, stored, fresh}
-use Rattle.rules.specs.Calls.{stepOf, referAll, applyOf}
+use Rattle.rules.specs.Events.{readOf, settingsOf, referencesOf, freshStart}
+use Rattle.rules.specs.Layout.{Tracker, fresh}
+use Rattle.rules.specs.Calls.{applyOf}
 use Rattle.rules.proofs.Tests.{cases, clash}
 use Rattle.rules.proofs.Events.{taken}
-use Rattle.rules.proofs.Calls.{refer-accept, refer-either, setup-either, restart-either}
-use Rattle.demands.specs.Runs.{Run, setup, restart, refer}
+use Rattle.rules.proofs.Calls.{setup-either, restart-either}
+use Rattle.demands.specs.Runs.{Run, setup, restart, onto}
+use Rattle.demands.specs.Spans.{Made, none, Ends, all, next, overrun}
 use Rattle.demands.specs.Needed.{settingsUnder}
+use Rattle.demands.proofs.Spans.{made-settings, events-one-by-one}
 use Rattle.feed.specs.Feed.{whole, inside, Feeding, stopped, further, afterEvent, afterReading, firstThen, feedMost, feedOf}
-use Rattle.feed.specs.Past.{pastAfter, freshStart}
+use Rattle.feed.specs.Past.{pastAfter}
 
--- ---- one event: either all of it is taken, or it is refused and leaves all as it was
+-- ---- one event: either all of it is taken, or it is refused, and of a span a first part is made
 
 abbrev pub taking : Tracker → Outcome (Unit {0}) Tracker
 taking s = record { result = gives tt; left = s }
@@ -37,29 +39,52 @@ pub record Took (e : Event) (s left : Tracker) : Type 0 where
   pub begins : freshStart e ≡ true → (past : List ℕ) → Run (pastAfter e past) left
   pub under : left .kept .settings ≡ settingsUnder e (s .kept .settings)
 
+-- one that was refused leaves what the first part of its references left
+pub record Stopped (e : Event) (s : Tracker) (n : ℕ) (left : Tracker) : Type 0 where
+  pub is : applyOf e s ≡ outcome (refused n) left
+  pub made : List ℕ
+  pub rest : List ℕ
+  pub are : made ++ rest ≡ referencesOf e
+  pub accepted : Made made s left
+
+-- why references ended: all are made, or one is refused
+ended : {C : Type 0} {over : Bool} {s : Tracker} {made rest : List ℕ} {o : Outcome (Unit {0}) Tracker} → Ends over s made rest o
+    → ((left : Tracker) → rest ≡ [] → o ≡ taking left → C) → ((n : ℕ) (left : Tracker) → o ≡ outcome (refused n) left → C) → C
+ended (all {left = left}) f g = f left refl refl
+ended (next {left = left} {n = n} e) f g = g n left refl
+ended (overrun {before = before}) f g = g 10 before refl
+
 module _ {C : Type 0} (s : Tracker) where
-  module _ (e : Event) (f : (left : Tracker) → Took e s left → C) (g : (n : ℕ) → applyOf e s ≡ outcome (refused n) s → C) where
-    module _ (not : freshStart e ≡ false) (same : s .kept .settings ≡ settingsUnder e (s .kept .settings)) where
-      no-reference : applyOf e s ≡ taking s → ((past : List ℕ) → pastAfter e past ≡ past) → C
-      no-reference is after = f s (record { is = is; runs = λ past r. rw after r; begins = λ b. clash b not; under = same })
+  module _ (e : Event) (f : (left : Tracker) → Took e s left → C) (g : (n : ℕ) (left : Tracker) → Stopped e s n left → C) where
+    references : freshStart e ≡ false → s .kept .settings ≡ settingsUnder e (s .kept .settings)
+        → ((past : List ℕ) → pastAfter e past ≡ onto (referencesOf e) past) → C
+    references not same after =
+        let w = events-one-by-one e s not in
+        ended (w .ends)
+        (λ left none is.
+        let whole : w .made ≡ referencesOf e = sym (append-nil (w .made)) ∙ ap (λ l. w .made ++ l) (sym none) ∙ w .are in
+        f left (record {
+          is = is;
+          runs = λ past r. subst₂ Run (ap (λ l. onto l past) whole ∙ sym (after past)) (ap (λ o. o .left) is) (w .continued past r);
+          begins = λ b. clash b not;
+          under = ap (λ o. o .left .kept .settings) (sym is) ∙ made-settings (w .accepted) ∙ same;
+        }))
+        (λ n left is. g n left (record {
+          is = is;
+          made = w .made;
+          rest = w .rest;
+          are = w .are;
+          accepted = subst (Made (w .made) s) (ap (λ o. o .left) is) (w .accepted);
+        }))
 
-      one-reference : (x : ℕ) → applyOf e s ≡ referAll (x ∷ []) s → ((past : List ℕ) → pastAfter e past ≡ x ∷ past) → C
-      unfolding referAll
-      one-reference x is after = refer-either x s
-          (λ a. f (stored (stepOf x s) s) (record {
-            is = is ∙ rw (refer-accept x s a);
-            runs = λ past r. rw after (refer r (refer-accept x s a));
-            begins = λ b. clash b not;
-            under = same;
-          }))
-          (λ n q. g n (is ∙ rw q))
+    -- a fresh start that is refused changes nothing
+    no-start : referencesOf e ≡ [] → (n : ℕ) → applyOf e s ≡ outcome (refused n) s → C
+    no-start no n is = g n s (record { is = is; made = []; rest = []; are = sym no; accepted = none })
 
-  pub apply-either : (e : Event) → ((left : Tracker) → Took e s left → C) → ((n : ℕ) → applyOf e s ≡ outcome (refused n) s → C) → C
-  unfolding applyOf referAll
-  apply-either (Location x) f g = one-reference (Location x) f g refl refl x refl (λ past. refl)
-  apply-either (Span offset n) f g = cases (eqb n 0)
-      (λ z. no-reference (Span offset n) f g refl refl (rw z) (λ past. rw z))
-      (λ z. one-reference (Span offset n) f g refl refl (offset / blockBytes) (rw z) (λ past. rw z))
+  pub apply-either : (e : Event) → ((left : Tracker) → Took e s left → C) → ((n : ℕ) (left : Tracker) → Stopped e s n left → C) → C
+  unfolding applyOf
+  apply-either (Location x) f g = references (Location x) f g refl refl (λ past. refl)
+  apply-either (Span offset n) f g = references (Span offset n) f g refl refl (λ past. refl)
   apply-either Restart f g = restart-either (s .kept) (s .tables)
       (λ b. f (fresh (s .kept .settings) (s .tables))
       (record {
@@ -68,7 +93,7 @@ module _ {C : Type 0} (s : Tracker) where
         begins = λ t past. restart (s .kept) (s .tables) (b .is);
         under = refl;
       }))
-      (λ n q. g n (rw q))
+      (λ n q. no-start Restart f g refl n (rw q))
   apply-either (Setup b) f g = setup-either (settingsOf b) (s .tables)
       (λ w. f (fresh (withDefaults (settingsOf b)) (s .tables))
       (record {
@@ -77,7 +102,7 @@ module _ {C : Type 0} (s : Tracker) where
         begins = λ t past. setup (settingsOf b) (s .tables) (w .is);
         under = refl;
       }))
-      (λ n q. g n (rw q))
+      (λ n q. no-start (Setup b) f g refl n (rw q))
 
 -- ---- the first event, and then more
 
@@ -135,8 +160,8 @@ module _ (P : List ℕ → Tracker → Feeding → Type 0)
     (ends : (s : Tracker) → P [] s (stopped (gives whole) s))
     (cut : (bytes : List ℕ) (s : Tracker) → 0 < length bytes → readOf bytes ≡ refused 7 → P bytes s (stopped (gives inside) s))
     (unknown : (bytes : List ℕ) (s : Tracker) (n : ℕ) → (n ≡ 7 → ⊥) → 0 < length bytes → readOf bytes ≡ refused n → P bytes s (stopped (refused n) s))
-    (refuses : (bytes : List ℕ) (s : Tracker) (g : Got) (n : ℕ) → readOf bytes ≡ gives g → applyOf (g .event) s ≡ outcome (refused n) s
-    → P bytes s (stopped (refused n) s))
+    (refuses : (bytes : List ℕ) (s : Tracker) (g : Got) (n : ℕ) (left : Tracker) → readOf bytes ≡ gives g → Stopped (g .event) s n left
+    → P bytes s (stopped (refused n) left))
     (goes : (bytes : List ℕ) (s : Tracker) (g : Got) (left : Tracker) → readOf bytes ≡ gives g → Took (g .event) s left
     → P (drop (g .taken) bytes) left (feedOf (drop (g .taken) bytes) left)
     → P bytes s (further (g .taken) (feedOf (drop (g .taken) bytes) left))) where
@@ -150,7 +175,7 @@ module _ (P : List ℕ → Tracker → Feeding → Type 0)
       (λ q. rw q (unknown bytes s m (eqb-false m 7 q) some e))
   reading n rest bytes s some h (gives g) e = apply-either s (g .event)
       (λ left t. rw (t .is) (goes bytes s g left e t (rest (drop (g .taken) bytes) left (less bytes e h))))
-      (λ m q. rw q (refuses bytes s g m e q))
+      (λ m left q. rw (q .is) (refuses bytes s g m left e q))
 
   one-more : (n : ℕ) → Most n → Most (suc n)
   one-more n rest [] s h = rw (feed-none [] s refl) (ends s)

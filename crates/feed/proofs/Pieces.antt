@@ -1,4 +1,4 @@
--- Feeding in pieces, cut anywhere, is feeding the whole; and feeding just the bytes that were taken leaves the same. By `by-feeding`: an event
+-- Feeding in pieces, cut anywhere, is feeding the whole; and the bytes that were taken, fed alone, are accepted. By `by-feeding`: an event
 -- that was read reads the same with more bytes behind it, and one that was cut is not taken, so that it is read again with them. Assumes
 -- nothing.
 use Prim.Native.Nat.{ℕ, _+_, _-_, _≤_, _<_}
@@ -14,10 +14,11 @@ use Rattle.rules.specs.Events.{readOf}
 use Rattle.rules.specs.Order.{Outcome, outcome}
 use Rattle.rules.specs.Layout.{Tracker}
 use Rattle.rules.specs.Calls.{applyOf}
-use Rattle.rules.proofs.Events.{taken}
-use Rattle.feed.specs.Feed.{End, whole, inside, Feeding, stopped, further, afterEvent, afterReading, feedOf, onward, resumed, justTaken}
+use Rattle.rules.proofs.Events.{read-empty, taken}
+use Rattle.demands.proofs.Spans.{made-none}
+use Rattle.feed.specs.Feed.{End, whole, inside, Feeding, stopped, further, afterEvent, afterReading, feedOf, onward, resumed, leftBy, TakenAlone}
 use Rattle.rules.proofs.Fronts.{read-more, read-short, read-refused, drop-take, read-front}
-use Rattle.feed.proofs.Laws.{taking, apply-either, feed-none, feed-reads, by-feeding}
+use Rattle.feed.proofs.Laws.{taking, Took, apply-either, feed-none, feed-reads, by-feeding}
 
 -- ---- where feeding ends
 
@@ -37,7 +38,7 @@ untaken = by-feeding (λ bytes s f. Untaken (f .result) (length bytes) (f .taken
     (λ s. refl)
     (λ bytes s some e. (some, omega (arith, read-short bytes e)))
     (λ bytes s n other some e. omega arith)
-    (λ bytes s g n e q. omega arith)
+    (λ bytes s g n left e q. omega arith)
     (λ bytes s g left e t u.
     let f = feedOf (drop (g .taken) bytes) left in
     untaken-further (f .result) (g .taken) (length bytes) (f .taken) (taken bytes e .1) (rw length-drop at u))
@@ -73,7 +74,7 @@ pieces bytes more = by-feeding (λ bytes s f. feedOf (bytes ++ more) s ≡ resum
     (λ s. sym (further-zero _))
     (λ bytes s some e. sym (further-zero _))
     (λ bytes s n other some e. more-reads bytes more s some (refused n) (read-refused bytes more other e) ∙ rw (ne-eqb n 7 other))
-    (λ bytes s g n e q. more-reads bytes more s (omega (arith, taken bytes e)) (gives g) (read-more bytes more e) ∙ rw q)
+    (λ bytes s g n left e q. more-reads bytes more s (omega (arith, taken bytes e)) (gives g) (read-more bytes more e) ∙ rw (q .is))
     (λ bytes s g left e t h.
     let f = feedOf (drop (g .taken) bytes) left in
     more-reads bytes more s (omega (arith, taken bytes e)) (gives g) (read-more bytes more e)
@@ -82,35 +83,50 @@ pieces bytes more = by-feeding (λ bytes s f. feedOf (bytes ++ more) s ≡ resum
 
 -- ---- the bytes that were taken
 
--- if none was, nothing has changed
-pub none-taken : (bytes : List ℕ) (s : Tracker) → feedOf bytes s .taken ≡ 0 → feedOf bytes s .left ≡ s
-none-taken = by-feeding (λ bytes s f. f .taken ≡ 0 → f .left ≡ s)
-    (λ s z. refl)
-    (λ bytes s some e z. refl)
-    (λ bytes s n other some e z. refl)
-    (λ bytes s g n e q z. refl)
-    (λ bytes s g left e t h z. absurd (omega (arith, taken bytes e)))
+-- if none was, and no reference was made, nothing has changed
+pub none-taken : (bytes : List ℕ) (s : Tracker) → feedOf bytes s .taken ≡ 0
+    → feedOf bytes s .left .kept .numbers .references ≡ s .kept .numbers .references → feedOf bytes s .left ≡ s
+none-taken = by-feeding (λ bytes s f. f .taken ≡ 0 → f .left .kept .numbers .references ≡ s .kept .numbers .references → f .left ≡ s)
+    (λ s z r. refl)
+    (λ bytes s some e z r. refl)
+    (λ bytes s n other some e z r. refl)
+    (λ bytes s g n left e q z r. made-none (q .accepted) r)
+    (λ bytes s g left e t h z r. absurd (omega (arith, taken bytes e)))
 
 -- nothing fed leaves all as it was
 nothing : (bytes : List ℕ) (s : Tracker) → feedOf (take 0 bytes) s ≡ stopped (gives whole) s
 nothing bytes s = feed-none (take 0 bytes) s refl
 
--- fed alone, they leave the same
-pub taken-alone : (bytes : List ℕ) (s : Tracker) → feedOf (take (feedOf bytes s .taken) bytes) s ≡ justTaken (feedOf bytes s)
-taken-alone = by-feeding (λ bytes s f. feedOf (take (f .taken) bytes) s ≡ justTaken f)
-    (λ s. nothing [] s)
-    (λ bytes s some e. nothing bytes s)
-    (λ bytes s n other some e. nothing bytes s)
-    (λ bytes s g n e q. nothing bytes s)
-    (λ bytes s g left e t h.
-    let n = feedOf (drop (g .taken) bytes) left .taken in
-    let e' = read-front (g .taken + n) bytes e (omega arith) in
-    feed-reads (take (g .taken + n) bytes) s (omega (arith, taken (take (g .taken + n) bytes) e')) (gives g) e'
-    ∙ rw (t .is, drop-take (g .taken) n bytes, h))
+-- where feeding stops at once, only the first event can have changed anything
+pub alone-none : (bytes : List ℕ) (s : Tracker) {why : Result End} {left : Tracker} (r : Result Got) → readOf bytes ≡ r → left ≡ leftBy r s
+    → TakenAlone bytes s (stopped why left)
+alone-none bytes s r e l = record { between = s; before = nothing bytes s; left-is = l ∙ ap (λ z. leftBy z s) (sym e) }
+
+-- after an event that was taken
+module _ (bytes : List ℕ) (s : Tracker) (g : Got) (left : Tracker) (e : readOf bytes ≡ gives g) (t : Took (g .event) s left) (f : Feeding) where
+  pub alone-goes : TakenAlone (drop (g .taken) bytes) left f → TakenAlone bytes s (further (g .taken) f)
+  alone-goes h =
+      let n = g .taken + f .taken in
+      let e' = read-front n bytes e (omega arith) in
+      record {
+        between = h .between;
+        before = feed-reads (take n bytes) s (omega (arith, taken (take n bytes) e')) (gives g) e'
+            ∙ rw (t .is, drop-take (g .taken) (f .taken) bytes, h .before);
+        left-is = h .left-is ∙ ap (λ l. leftBy (readOf l) (h .between)) (drop-drop (f .taken) (g .taken) bytes);
+      }
+
+-- fed alone, they are accepted, and the event behind them does the rest
+pub taken-alone : (bytes : List ℕ) (s : Tracker) → TakenAlone bytes s (feedOf bytes s)
+taken-alone = by-feeding TakenAlone
+    (λ s. alone-none [] s (refused 7) (read-empty [] refl) refl)
+    (λ bytes s some e. alone-none bytes s (refused 7) e refl)
+    (λ bytes s n other some e. alone-none bytes s (refused n) e refl)
+    (λ bytes s g n left e q. alone-none bytes s (gives g) e (sym (ap (λ o. o .left) (q .is))))
+    (λ bytes s g left e t h. alone-goes bytes s g left e t (feedOf (drop (g .taken) bytes) left) h)
 
 -- ---- the bytes of one event
 
--- fed alone, the first event is taken, or refused with nothing changed
+-- fed alone, the first event is taken or refused, as it is applied
 module _ (bytes : List ℕ) (s : Tracker) (g : Got) (e : readOf bytes ≡ gives g) where
   abbrev event : List ℕ
   event = take (g .taken) bytes
@@ -127,9 +143,9 @@ module _ (bytes : List ℕ) (s : Tracker) (g : Got) (e : readOf bytes ≡ gives 
 
   pub one-event : {C : Type 0}
       → ((left : Tracker) → applyOf (g .event) s ≡ taking left → feedOf event s ≡ record { taken = g .taken; result = gives whole; left = left } → C)
-      → ((n : ℕ) → applyOf (g .event) s ≡ outcome (refused n) s → feedOf event s ≡ stopped (refused n) s → C) → C
+      → ((n : ℕ) (left : Tracker) → applyOf (g .event) s ≡ outcome (refused n) left → feedOf event s ≡ stopped (refused n) left → C) → C
   one-event took refuses = apply-either s (g .event)
       (λ left t. took left (t .is)
       (reads (taking left) (t .is) ∙ ap (further (g .taken)) (no-more left)
       ∙ (λ i. record { taken = add-zero (g .taken) i; result = gives whole; left = left })))
-      (λ n q. refuses n q (reads (outcome (refused n) s) q))
+      (λ n left q. refuses n left (q .is) (reads (outcome (refused n) left) (q .is)))

@@ -8,7 +8,7 @@ use native.Mathlib.Omega.{arith}
 use lib.Dec.{eqb}
 use lib.ListN.{length, take, drop, take-append-drop}
 use lib.Seq.{drop-drop}
-use borrow.Author.Tests.{eq-eqb, eqb-true, eqb-false}
+use borrow.Author.Tests.{eq-eqb, ne-eqb, eqb-true, eqb-false}
 use Rattle.rules.specs.declared.Event.{Event}
 use Rattle.rules.specs.Answers.{Result, refused, gives, Got}
 use Rattle.rules.specs.Order.{outcome, says}
@@ -19,13 +19,13 @@ use Rattle.rules.proofs.Tests.{cases}
 use Rattle.rules.proofs.Answers.{refused-same}
 use Rattle.rules.proofs.Order.{not-both}
 use Rattle.rules.proofs.Events.{read-empty, taken}
-use Rattle.rules.proofs.Fronts.{drop-take, read-eight}
+use Rattle.rules.proofs.Fronts.{drop-take, read-named}
 use Rattle.demands.specs.Refusing.{applyOrder, FirstIs}
 use Rattle.demands.proofs.Refusing.{in-order, apply-in-order}
-use Rattle.feed.specs.Feed.{End, whole, Feeding, stopped, further, afterReading, feedOf, resumed, justTaken}
+use Rattle.feed.specs.Feed.{Feeding, stopped, further, feedOf, resumed, leftBy}
 use Rattle.feed.specs.Refused.{nextOrder, RefusedAfter, FeedInOrder}
 use Rattle.feed.proofs.Laws.{apply-either, feed-reads, by-feeding}
-use Rattle.feed.proofs.Pieces.{taken-within, pieces, taken-alone}
+use Rattle.feed.proofs.Pieces.{pieces, alone-none, alone-goes}
 
 -- ---- only so
 
@@ -33,21 +33,31 @@ use Rattle.feed.proofs.Pieces.{taken-within, pieces, taken-alone}
 event-first : (e : Event) (s : Tracker) (n : ℕ) → applyOf e s .result ≡ refused n → FirstIs n (applyOrder e s)
 event-first e s n r = in-order .only-so (applyOrder e s) tt n (sym (apply-in-order e s) ∙ r)
 
-abbrev Next : ℕ → List ℕ → Tracker → Type 0
-Next n bytes s = FirstIs n (nextOrder (readOf bytes) s)
+-- what cannot be read is refused by the number that reading gave
+unread-first : (bytes : List ℕ) (s : Tracker) {n : ℕ} → (n ≡ 7 → ⊥) → readOf bytes ≡ refused n → FirstIs n (nextOrder (refused n) s)
+unread-first bytes s {n} other e = read-named bytes other e
+    (λ eight. record { place = 0; first = eq-eqb n 8 eight; numbered = sym eight })
+    (λ ten. record { place = 1; first = (ne-eqb n 8 (λ z. omega arith), eq-eqb n 10 ten); numbered = sym ten })
 
-first-next : (bytes : List ℕ) (s : Tracker) (n : ℕ) → feedOf bytes s .result ≡ refused n
-    → Next n (drop (feedOf bytes s .taken) bytes) (feedOf bytes s .left)
-first-next = by-feeding (λ bytes s f. (n : ℕ) → f .result ≡ refused n → Next n (drop (f .taken) bytes) (f .left))
+only : (bytes : List ℕ) (s : Tracker) (n : ℕ) → feedOf bytes s .result ≡ refused n → RefusedAfter n bytes s (feedOf bytes s)
+only = by-feeding (λ bytes s f. (n : ℕ) → f .result ≡ refused n → RefusedAfter n bytes s f)
     (λ s n r. absurd (not-both r refl))
     (λ bytes s some e n r. absurd (not-both r refl))
-    (λ bytes s m other some e n r.
-    let eight = read-eight bytes other e in
-    rw e (record { place = 0; first = eq-eqb m 8 eight; numbered = sym eight ∙ refused-same r }))
-    (λ bytes s g m e q n r. rw e (event-first (g .event) s n (ap (λ o. o .result) q ∙ ap refused (refused-same r))))
+    (λ bytes s m other some e n r. record {
+      alone = alone-none bytes s (refused m) e refl;
+      next = rw (e, ← refused-same r) (unread-first bytes s other e);
+    })
+    (λ bytes s g m left e q n r. record {
+      alone = alone-none bytes s (gives g) e (sym (ap (λ o. o .left) (q .is)));
+      next = rw e (event-first (g .event) s n (ap (λ o. o .result) (q .is) ∙ ap refused (refused-same r)));
+    })
     (λ bytes s g left e t h n r.
     let f = feedOf (drop (g .taken) bytes) left in
-    subst (λ rest. Next n rest (f .left)) (drop-drop (f .taken) (g .taken) bytes) (h n r))
+    let w = h n r in
+    record {
+      alone = alone-goes bytes s g left e t f (w .alone);
+      next = subst (λ rest. FirstIs n (nextOrder (readOf rest) (w .alone .between))) (drop-drop (f .taken) (g .taken) bytes) (w .next);
+    })
 
 -- ---- always so
 
@@ -58,20 +68,22 @@ module _ (bytes : List ℕ) (s : Tracker) (n : ℕ) where
       (λ z. absurd (other (sym e ∙ read-empty bytes (eqb-true _ _ z))))
       (λ z. omega (arith, eqb-false (length bytes) 0 z))
 
-  at-once : (r : Result Got) → readOf bytes ≡ r → FirstIs n (nextOrder r s) → feedOf bytes s ≡ stopped (refused n) s
+  at-once : (r : Result Got) → readOf bytes ≡ r → FirstIs n (nextOrder r s) → feedOf bytes s ≡ stopped (refused n) (leftBy r s)
   at-once (refused m) e x =
       let refuses : says {A = Unit {0}} (nextOrder (refused m) s) tt ≡ refused n = in-order .always-so (nextOrder (refused m) s) tt n x in
+      let stops : (m ≡ 7 → ⊥) → m ≡ n → feedOf bytes s ≡ stopped (refused n) s =
+      λ other is. feed-reads bytes s (some-bytes e (λ z. other (refused-same z))) (refused m) e ∙ rw (ne-eqb m 7 other, is) in
       cases (eqb m 8)
-      (λ q.
-      let eight : m ≡ 8 = eqb-true m 8 q in
-      let is : 8 ≡ n = refused-same (rw q at refuses) in
-      feed-reads bytes s (some-bytes e (λ z. omega (arith, refused-same z))) (refused m) e ∙ rw (eight, ← is))
-      (λ q. absurd (not-both refuses (rw q)))
-  at-once (gives g) e x = apply-either s (g .event)
-      (λ left t. absurd (not-both (apply-in-order (g .event) s ∙ in-order .always-so (applyOrder (g .event) s) tt n x) (ap (λ o. o .result) (t .is))))
-      (λ m q. feed-reads bytes s (omega (arith, taken bytes e)) (gives g) e ∙ rw q (ap (λ z. stopped (refused z) s)
-      (refused-same {A = Unit {0}} (sym (ap (λ o. o .result) q) ∙ apply-in-order (g .event) s
-      ∙ in-order .always-so (applyOrder (g .event) s) tt n x))))
+      (λ q. let eight = eqb-true m 8 q in stops (λ z. omega arith) (eight ∙ refused-same (rw q at refuses)))
+      (λ q. cases (eqb m 10)
+      (λ t. let ten = eqb-true m 10 t in stops (λ z. omega arith) (ten ∙ refused-same (rw (q, t) at refuses)))
+      (λ t. absurd (not-both refuses (rw (q, t)))))
+  at-once (gives g) e x =
+      let refuses : applyOf (g .event) s .result ≡ refused n = apply-in-order (g .event) s ∙ in-order .always-so (applyOrder (g .event) s) tt n x in
+      apply-either s (g .event)
+      (λ left t. absurd (not-both refuses (ap (λ o. o .result) (t .is))))
+      (λ m left q. feed-reads bytes s (omega (arith, taken bytes e)) (gives g) e
+      ∙ rw (q .is) (ap (λ z. stopped (refused z) left) (refused-same {A = Unit {0}} (sym (ap (λ o. o .result) (q .is)) ∙ refuses))))
 
 module _ (bytes : List ℕ) (s : Tracker) (n : ℕ) (f : Feeding) (r : f .result ≡ refused n) (x : RefusedAfter n bytes s f) where
   -- nothing is left of the bytes before the event
@@ -81,14 +93,12 @@ module _ (bytes : List ℕ) (s : Tracker) (n : ℕ) (f : Feeding) (r : f .result
   always : feedOf bytes s ≡ f
   always =
       let k = f .taken in
+      let w = x .alone in
       ap (λ l. feedOf l s) (sym (take-append-drop k bytes)) ∙ pieces (take k bytes) (drop k bytes) s
-      ∙ ap (λ o. resumed o (take k bytes) (drop k bytes)) (x .before)
-      ∙ ap (λ (l : List ℕ). further k (feedOf (l ++ drop k bytes) (f .left))) nothing-between
-      ∙ ap (further k) (at-once (drop k bytes) (f .left) n (readOf (drop k bytes)) refl (x .next))
-      ∙ (λ i. record { taken = add-zero k i; result = sym r i; left = f .left })
+      ∙ ap (λ o. resumed o (take k bytes) (drop k bytes)) (w .before)
+      ∙ ap (λ (l : List ℕ). further k (feedOf (l ++ drop k bytes) (w .between))) nothing-between
+      ∙ ap (further k) (at-once (drop k bytes) (w .between) n (readOf (drop k bytes)) refl (x .next))
+      ∙ (λ i. record { taken = add-zero k i; result = sym r i; left = sym (w .left-is) i })
 
 pub feed-in-order : FeedInOrder
-feed-in-order = record {
-  only-so = λ bytes s n r. record { before = taken-alone bytes s; next = first-next bytes s n r };
-  always-so = λ bytes s n f r x. always bytes s n f r x;
-}
+feed-in-order = record { only-so = only; always-so = always }

@@ -1,9 +1,10 @@
 -- Document 01, "Trace events" and "The curve program": feeding the bytes of a trace, event by event. Assumes nothing.
 use Prim.Native.Nat.{ℕ, zero, suc, _+_}
+use mathlib.Core.Path.{_≡_}
 use mathlib.Core.Bool.{cond}
 use mathlib.Core.List.{List, _++_}
 use lib.Dec.{eqb}
-use lib.ListN.{length, drop}
+use lib.ListN.{length, take, drop}
 use Rattle.rules.specs.Answers.{Result, refused, gives, number, Got}
 use Rattle.rules.specs.Events.{readOf}
 use Rattle.rules.specs.Layout.{Tracker, tracker}
@@ -68,10 +69,16 @@ resumed f bytes more = onward (f .result) (f .taken) bytes more (f .left)
 abbrev pub allTaken : (taken : ℕ) → Tracker → Feeding
 allTaken taken s = record { taken = taken; result = gives whole; left = s }
 
--- what the first event of some bytes leaves: nothing is changed by one that cannot be read
+-- what the first event of some bytes leaves: one that cannot be read changes nothing
 abbrev pub leftBy : Result Got → Tracker → Tracker
 leftBy (refused n) s = s
 leftBy (gives g) s = applyOf (g .event) s .left
+
+-- the bytes that were taken, fed alone, are accepted to their end; and what was left is what the event behind them leaves of that
+pub record TakenAlone (bytes : List ℕ) (s : Tracker) (f : Feeding) : Type 0 where
+  pub between : Tracker
+  pub before : feedOf (take (f .taken) bytes) s ≡ allTaken (f .taken) between
+  pub left-is : f .left ≡ leftBy (readOf (drop (f .taken) bytes)) between
 
 -- ---- what the code returns, with the tables as the call left them
 
