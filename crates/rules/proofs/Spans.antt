@@ -19,15 +19,15 @@ use Rattle.rules.proofs.Tests.{cases, clash}
 
 -- ---- rising numbers
 
-pub rising-length : (from n : ℕ) → length (rising from n) ≡ n
-rising-length from zero = refl
-rising-length from (suc n) = ap suc (rising-length (suc from) n)
-
 -- place i holds the first and i more
 pub rising-at : (from n i : ℕ) → i < n → getD (rising from n) i 0 ≡ from + i
 rising-at from zero i h = absurd (omega arith)
 rising-at from (suc n) zero h = omega arith
 rising-at from (suc n) (suc i) h = rising-at (suc from) n i (omega arith) ∙ (let q : suc from + i ≡ from + suc i = omega arith in q)
+
+pub rising-length : (from n : ℕ) → length (rising from n) ≡ n
+rising-length from zero = refl
+rising-length from (suc n) = ap suc (rising-length (suc from) n)
 
 pub rising-in : (from n b : ℕ) → from ≤ b → b < from + n → has b (rising from n) ≡ true
 rising-in from zero b h k = absurd (omega arith)
@@ -44,17 +44,10 @@ rising-only from (suc n) b h = cases (eqb b from)
 -- ---- the blocks of a span
 
 module _ (offset bytes : ℕ) where
-  pub blocks-none : bytes ≡ 0 → blocksIn offset bytes ≡ 0
-  blocks-none e = rw e
-
-  pub blocks-some : (bytes ≡ 0 → ⊥) → blocksIn offset bytes ≡ suc (blockOf (lastByte offset bytes) - blockOf offset)
-  blocks-some some = rw (ne-eqb bytes 0 some)
-
   -- each byte's block is one of them
   pub blocks-all : (byte : ℕ) → offset ≤ byte → byte < offset + bytes → has (blockOf byte) (rising (blockOf offset) (blocksIn offset bytes)) ≡ true
   blocks-all byte h k =
-      rw (blocks-some (λ z. omega arith))
-      (rising-in (blockOf offset) (suc (blockOf (lastByte offset bytes) - blockOf offset)) (blockOf byte) (omega arith) (omega arith))
+      rising-in (blockOf offset) (blocksIn offset bytes) (blockOf byte) (omega arith) (rw (ne-eqb bytes 0 (λ z. omega arith)) (omega arith))
 
   -- and each of them holds such a byte
   pub blocks-only : (b : ℕ) → has b (rising (blockOf offset) (blocksIn offset bytes)) ≡ true
@@ -63,16 +56,27 @@ module _ (offset bytes : ℕ) where
       (λ e. clash (simp e at h) refl)
       (λ e.
       let d = eqb-false bytes 0 e in
-      let r = rising-only (blockOf offset) (suc (blockOf (lastByte offset bytes) - blockOf offset)) b (simp e at h) in
+      let r = simp e at (rising-only (blockOf offset) (blocksIn offset bytes) b h) in
       cases (ltb (b * blockBytes) offset)
       (λ o. let l = ltb-true (b * blockBytes) offset o in (offset, omega arith, omega arith, omega arith))
       (λ o. let l = ltb-false (b * blockBytes) offset o in (b * blockBytes, omega arith, omega arith, omega arith)))
 
-  -- ---- the test of 10, with no sum that could wrap
+  pub blocks-none : bytes ≡ 0 → blocksIn offset bytes ≡ 0
+  blocks-none e = rw e
+
+  pub blocks-some : (bytes ≡ 0 → ⊥) → blocksIn offset bytes ≡ suc (blockOf (lastByte offset bytes) - blockOf offset)
+  blocks-some some = rw (ne-eqb bytes 0 some)
+
+  -- ---- the test of 10
+
+  -- where a span does not overrun, its last byte fits 64 bits
+  pub last-fits : (bytes ≡ 0 → ⊥) → overrun offset bytes ≡ false → lastByte offset bytes < 2 ^ 64
+  last-fits some o = let h = ltb-false _ (lastByte offset bytes) (rw (ne-eqb bytes 0 some) at o) in omega arith
 
   pub overrun-none : bytes ≡ 0 → overrun offset bytes ≡ false
   overrun-none e = rw e
 
+  -- with no sum that could wrap
   module _ (some : bytes ≡ 0 → ⊥) (fits : offset < 2 ^ 64) where
     pub overrun-test : overrun offset bytes ≡ ltb (2 ^ 64 - 1 - offset) (bytes - 1)
     overrun-test = rw (ne-eqb bytes 0 some) (cases (ltb (2 ^ 64 - 1) (lastByte offset bytes))
@@ -83,11 +87,7 @@ module _ (offset bytes : ℕ) where
         (λ p. absurd (omega (arith, h, ltb-true (2 ^ 64 - 1 - offset) (bytes - 1) p)))
         (λ p. rw (o, p))))
 
-  -- where a span does not overrun, its last byte fits 64 bits
-  pub last-fits : (bytes ≡ 0 → ⊥) → overrun offset bytes ≡ false → lastByte offset bytes < 2 ^ 64
-  last-fits some o = let h = ltb-false (2 ^ 64 - 1) (lastByte offset bytes) (rw (ne-eqb bytes 0 some) at o) in omega arith
-
-  -- and its blocks stay far below
+  -- the blocks of one that does not overrun stay far below
   pub blocks-fit : offset < 2 ^ 64 → overrun offset bytes ≡ false → blockOf offset + blocksIn offset bytes ≤ 2 ^ 52
   blocks-fit fits o = cases (eqb bytes 0)
       (λ e. rw e (omega arith))

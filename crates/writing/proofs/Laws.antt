@@ -34,7 +34,7 @@ reads-back e before after n (w, fits) bytes begins =
     let k = write-filled e before n after w in
     let filled : take n after ≡ eventBytes e = rw (k .1, k .0) (over-front (eventBytes e) before) in
     let whole : eventBytes e ++ drop n bytes ≡ bytes = rw (← begins ∙ filled) (take-append-drop n bytes) in
-    rw (← whole, k .0) (round e _ fits)
+    rw (← whole, k .0) (round e _ fits (k .2))
 
 pub written-is-read : WrittenIsRead
 written-is-read e before after n w bytes begins r said =

@@ -16,7 +16,8 @@ use Rattle.rules.specs.Events.{readOf, writeOf, Fits}
 abbrev pub WritePromise : Event → (before : List ℕ) → Written → (after : List ℕ) → Type 0
 WritePromise event before r after = (outcome (writtenResult r) after ≡ writeOf event before) × Fits event
 
--- if `write` filled n bytes, then `read` of any bytes that begin with these n, as the buffer does, answers the event with n
+-- if `write` filled n bytes, then `read` of any bytes that begin with these n, as the buffer does, answers the event with n: with no premise, since
+-- an event that overruns is refused
 abbrev pub WrittenIsRead : Type 0
 WrittenIsRead = (event : Event) (before after : List ℕ) (n : ℕ) → WritePromise event before (written.Filled n) after
     → (bytes : List ℕ) → take n bytes ≡ take n after → (r : Reading) → readingResult r ≡ readOf bytes → r ≡ reading.Got event n

@@ -32,7 +32,7 @@ returns-3 c = c .read-span .ensures ∙ sym (read-kind 2 _ (c .before .before .b
 returns-4 : tie.Need-returns-4
 returns-4 c =
     let any = c .before .before .if1 .left in
-    whole-fits 1 (now (c .before .before .before .before .args .bytes)) refl (pos-of-ne-zero any) ∙ sym (read-kind 3 _ any (c .match .keys3))
+    whole-fits 1 (now (c .before .before .before .before .args .bytes)) refl refl (pos-of-ne-zero any) ∙ sym (read-kind 3 _ any (c .match .keys3))
 
 returns-5 : tie.Need-returns-5
 returns-5 c = c .read-setup .ensures ∙ sym (read-kind 4 _ (c .before .before .before .if1 .left) (c .before .match .keys4))

@@ -50,7 +50,7 @@ returns-2 c = c .before .before .put-given2 .ensures
 returns-3 : tie.Need-returns-3
 returns-3 c =
     let why = c .before .before in
-    let other = not-empty (why .why .given .0 .0) (λ e. miss (0 ∷ 1 ∷ 2 ∷ 3 ∷ 4 ∷ 5 ∷ 6 ∷ 7 ∷ []) 8 tt (rw e at (c .match2 .keys2))) in
+    let other = not-empty (why .why .given .0 .0) (λ e. miss (0 ∷ 1 ∷ 2 ∷ 3 ∷ 4 ∷ 5 ∷ 6 ∷ 7 ∷ 9 ∷ []) 8 tt (rw e at (c .match2 .keys2))) in
     curve-refused _ (rw (why .why .given .1, other) at (judged (why .before .before)))
 
 pub put-curve-spec : {M : Type 1} → statement M
