@@ -99,7 +99,6 @@ module _ (e : Event) (s : Tracker) (a : Call) (is : a ≡ callOf e) where
   apply-references from many p q = q ∙ ap (λ z. doneOf z s) (sym p) ∙ call-is
 
   module _ (ls cs ts : List ℕ) where
-
     pub apply-restart : (r : Started) → a ≡ call.Restart → outcome (startedResult r) (tablesOf ls cs ts) ≡ restartOf (s .kept) (s .tables)
         → outcomeOf (startedOn (s .kept) r) ls cs ts ≡ applyOf e s
     apply-restart r p q = one-start (s .kept) (restartOf (s .kept) (s .tables)) r ls cs ts q ∙ ap (λ z. doneOf z s) (sym p) ∙ call-is

@@ -79,7 +79,7 @@ module _ {C : Type 0} (s : Tracker) where
 
     -- a fresh start that is refused changes nothing
     no-start : referencesOf e ≡ [] → (n : ℕ) → applyOf e s ≡ outcome (refused n) s → C
-    no-start no n is = g n s (record { is = is; made = []; rest = []; are = sym no; accepted = none })
+    no-start bare n is = g n s (record { is = is; made = []; rest = []; are = sym bare; accepted = none })
 
   pub apply-either : (e : Event) → ((left : Tracker) → Took e s left → C) → ((n : ℕ) (left : Tracker) → Stopped e s n left → C) → C
   unfolding applyOf

@@ -94,17 +94,17 @@ none-taken = by-feeding (λ bytes s f. f .taken ≡ 0 → f .left .kept .numbers
     (λ bytes s g left e t h z r. absurd (omega (arith, taken bytes e)))
 
 -- nothing fed leaves all as it was
-nothing : (bytes : List ℕ) (s : Tracker) → feedOf (take 0 bytes) s ≡ stopped (gives whole) s
+pub nothing : (bytes : List ℕ) (s : Tracker) → feedOf (take 0 bytes) s ≡ stopped (gives whole) s
 nothing bytes s = feed-none (take 0 bytes) s refl
 
 -- where feeding stops at once, only the first event can have changed anything
-pub alone-none : (bytes : List ℕ) (s : Tracker) {why : Result End} {left : Tracker} (r : Result Got) → readOf bytes ≡ r → left ≡ leftBy r s
+abbrev pub alone-none : (bytes : List ℕ) (s : Tracker) {why : Result End} {left : Tracker} (r : Result Got) → readOf bytes ≡ r → left ≡ leftBy r s
     → TakenAlone bytes s (stopped why left)
 alone-none bytes s r e l = record { between = s; before = nothing bytes s; left-is = l ∙ ap (λ z. leftBy z s) (sym e) }
 
 -- after an event that was taken
 module _ (bytes : List ℕ) (s : Tracker) (g : Got) (left : Tracker) (e : readOf bytes ≡ gives g) (t : Took (g .event) s left) (f : Feeding) where
-  pub alone-goes : TakenAlone (drop (g .taken) bytes) left f → TakenAlone bytes s (further (g .taken) f)
+  abbrev pub alone-goes : TakenAlone (drop (g .taken) bytes) left f → TakenAlone bytes s (further (g .taken) f)
   alone-goes h =
       let n = g .taken + f .taken in
       let e' = read-front n bytes e (omega arith) in

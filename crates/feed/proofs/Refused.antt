@@ -22,7 +22,7 @@ use Rattle.rules.proofs.Events.{read-empty, taken}
 use Rattle.rules.proofs.Fronts.{drop-take, read-named}
 use Rattle.demands.specs.Refusing.{applyOrder, FirstIs}
 use Rattle.demands.proofs.Refusing.{in-order, apply-in-order}
-use Rattle.feed.specs.Feed.{Feeding, stopped, further, feedOf, resumed, leftBy}
+use Rattle.feed.specs.Feed.{Feeding, stopped, further, afterEvent, feedOf, resumed, leftBy}
 use Rattle.feed.specs.Refused.{nextOrder, RefusedAfter, FeedInOrder}
 use Rattle.feed.proofs.Laws.{apply-either, feed-reads, by-feeding}
 use Rattle.feed.proofs.Pieces.{pieces, alone-none, alone-goes}
@@ -82,8 +82,11 @@ module _ (bytes : List ℕ) (s : Tracker) (n : ℕ) where
       let refuses : applyOf (g .event) s .result ≡ refused n = apply-in-order (g .event) s ∙ in-order .always-so (applyOrder (g .event) s) tt n x in
       apply-either s (g .event)
       (λ left t. absurd (not-both refuses (ap (λ o. o .result) (t .is))))
-      (λ m left q. feed-reads bytes s (omega (arith, taken bytes e)) (gives g) e
-      ∙ rw (q .is) (ap (λ z. stopped (refused z) left) (refused-same {A = Unit {0}} (sym (ap (λ o. o .result) (q .is)) ∙ refuses))))
+      (λ m left q.
+      let same : m ≡ n = refused-same {A = Unit {0}} (sym (ap (λ o. o .result) (q .is)) ∙ refuses) in
+      feed-reads bytes s (omega (arith, taken bytes e)) (gives g) e
+      ∙ ap (λ o. afterEvent feedOf (g .taken) bytes (o .result) (o .left)) (q .is)
+      ∙ (λ i. stopped (refused (same i)) (sym (ap (λ o. o .left) (q .is)) i)))
 
 module _ (bytes : List ℕ) (s : Tracker) (n : ℕ) (f : Feeding) (r : f .result ≡ refused n) (x : RefusedAfter n bytes s f) where
   -- nothing is left of the bytes before the event
