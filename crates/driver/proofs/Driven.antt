@@ -1,5 +1,5 @@
--- What a C caller holds and gets. A call on the words is the rules' call on their record (`onHeld`), and each call of the rules either accepts or
--- leaves everything and has a number that is not 0 (`Sound`); the statements follow from the two. Assumes nothing.
+-- What a C caller holds and gets. A call on the words is the rules' call on their record (`onHeld`); no call of the rules is refused 0, and each
+-- but that of a span either accepts or leaves everything (`Sound`); the statements follow from these. Assumes nothing.
 use Prim.Native.Nat.{ℕ}
 use mathlib.Core.Path.{_≡_, refl, sym, ap, subst, _∙_}
 use mathlib.Core.Bool.{Bool, true, false, cond}
@@ -19,41 +19,43 @@ use Rattle.rules.specs.Settings.{Histogram, Tables, withDefaults}
 use Rattle.rules.specs.Reference.{Reply}
 use Rattle.rules.specs.Answers.{Result, refused, gives, number, numberOf, Got}
 use Rattle.rules.specs.Order.{Outcome, outcome, Judged, says, NoneHolds}
-use Rattle.rules.specs.Events.{eventBytes, eventLength, readOf, readOrder, writeOf, writeOrder}
+use Rattle.rules.specs.Events.{eventBytes, eventLength, referencesOf, freshStart, overrun, overruns, readOf, readOrder, writeOf, writeOrder}
 use Rattle.rules.specs.Layout.{Tracker, freshRecord, freshTables, fresh}
 use Rattle.rules.specs.Calls.{setupOf, restartOf, restartOrder, startedOver, restartOver, stepOf, referOf, referOrder, pointOf, pointOrder}
-use Rattle.rules.specs.Calls.{plotOf}
+use Rattle.rules.specs.Calls.{plotOf, spanOf, applyOf}
 use Rattle.rules.specs.History.{Reference}
 use Rattle.rules.proofs.Tests.{cases, clash}
 use Rattle.rules.proofs.Order.{not-both, says-given, says-accepted, says-some, leaves-was}
 use Rattle.rules.proofs.Calls.{setup-accept, setup-begins, restart-either, refer-either, refer-accept}
-use Rattle.demands.specs.Runs.{Run, setup, restart, refer}
+use Rattle.demands.specs.Runs.{Run, setup, restart, refer, onto}
 use Rattle.demands.specs.Statements.{historyReply}
-use Rattle.demands.specs.Refusing.{staleOr}
+use Rattle.demands.specs.Spans.{OneByOne}
+use Rattle.demands.specs.Refusing.{isSpan, staleOr}
 use Rattle.demands.specs.Needed.{neededBy, SameBeyond, settingsUnder, mostNeeded}
-use Rattle.demands.proofs.Refusing.{apply-some, stale-says, stale-plots, only-stale}
+use Rattle.demands.proofs.Spans.{events-one-by-one}
+use Rattle.demands.proofs.Refusing.{untouched, apply-some, stale-says, stale-plots, only-stale}
 use Rattle.demands.proofs.Needed.{same-all, started-tables, only-needed}
 use Rattle.demands.proofs.Tracking.{threshold, live-list, numbers, whole-answers}
 use Rattle.demands.proofs.Alone.{nothing-else}
 use Rattle.demands.proofs.Points.{full-rate}
-use Rattle.feed.specs.Feed.{End, whole, inside, Feeding, feedOf}
-use Rattle.feed.specs.Past.{pastAfter, pastOf, freshStart, Events, none}
+use Rattle.feed.specs.Feed.{End, whole, inside, Feeding, feedOf, leftBy}
+use Rattle.feed.specs.Past.{pastAfter, pastOf, Events, none, referencesNext}
 use Rattle.feed.proofs.Laws.{Took, apply-either, by-feeding}
 use Rattle.feed.proofs.Pieces.{taken-alone}
 use Rattle.feed.proofs.Runs.{ran}
 use Rattle.rules.specs.declared.Written.the-variants as written
 use Rattle.writing.specs.ReadBack.{WritePromise}
 use Rattle.writing.proofs.Laws.{reads-back}
-use Rattle.words.specs.Words.{fewWords, recordOf, put, storedIf, returned, answerWords, pointWords, plotWords, eventWords}
+use Rattle.words.specs.Words.{fewWords, wordsOf, recordOf, put, returned, answerWords, pointWords, plotWords, eventWords}
 use Rattle.words.specs.Words.{gotWords, appliedWords, writtenWords, fedWords}
-use Rattle.words.proofs.Laws.{put-length, record-of-put}
+use Rattle.words.proofs.Laws.{put-same, put-length, record-of-put}
 use Rattle.driver.specs.Calls.{Held, held, trackerIn, returning, keeping, onHeld, onWords, setupInOrder, setupHeld, setupIn}
-use Rattle.driver.specs.Calls.{restartIn, referIn, applyGot, applyIn, fedIn, feedIn, writeIn}
+use Rattle.driver.specs.Calls.{restartIn, referIn, spanIn, giving, applyGot, applyIn, fedIn, feedIn, writeIn}
 use Rattle.driver.specs.Driven.{Accepted, AcceptedOn, ZeroWhen, ZeroIsAccepted, LeftAsItWas, FedAlone, TooFew, SamePast}
-use Rattle.driver.specs.Driven.{PastTheRecord, OnlyNeededIn, StaleByNumber, StaleIn}
+use Rattle.driver.specs.Driven.{OverrunIn, PastTheRecord, OnlyNeededIn, StaleByNumber, StaleIn, PartMade, OneByOneIn}
 use Rattle.driver.specs.Driven.{HoldsRun, FedRun, CallsAreARun, ThresholdIn, LiveListIn, NothingElseIn, ReferencesIn, FullRateIn}
 use Rattle.driver.specs.Driven.{ReadBackIn}
-use Rattle.driver.proofs.Laws.{answer-number, stored-same, by-words, setup-few, got-is, fed-by}
+use Rattle.driver.proofs.Laws.{answer-number, by-words, setup-few, got-is, fed-by, span-by}
 
 -- ---- a result, by its number
 
@@ -112,7 +114,7 @@ fed-taken n (refused m) = refl
 fed-taken n (gives whole) = refl
 fed-taken n (gives inside) = refl
 
--- ---- each call of the rules either accepts or leaves everything, with a number that is not 0
+-- ---- each call of the rules but that of a span either accepts or leaves everything, with a number that is not 0
 
 data Sound {A : Type 0} (o : Outcome A Tracker) (s : Tracker) : Type 0 where
   accepts : (a : A) → o .result ≡ gives a → Sound o s
@@ -155,7 +157,7 @@ feed-some = by-feeding (λ bytes s f. f .result ≡ refused 0 → ⊥)
     (λ s r. not-both r refl)
     (λ bytes s more e r. not-both r refl)
     (λ bytes s n other more e r. read-some bytes e (ap numberOf r))
-    (λ bytes s g n e q r. apply-some (g .event) s (ap (λ o. o .result) q ∙ ap refused (ap numberOf r)))
+    (λ bytes s g n left e q r. apply-some (g .event) s (ap (λ o. o .result) (q .is) ∙ ap refused (ap numberOf r)))
     (λ bytes s g left e t h. h)
 
 restart-sound : (s : Tracker) → Sound (restartOver s) s
@@ -168,22 +170,35 @@ refer-sound x s = refer-either x s
     (λ a. accepts _ (ap (λ o. o .result) (refer-accept x s a)))
     (λ n e. refuses n (refer-some x s (ap (λ o. o .result) e)) e)
 
-apply-sound : (bytes : List ℕ) (s : Tracker) → Sound (applyGot (readOf bytes) s) s
-apply-sound bytes s = result-cases (readOf bytes)
+-- an event: no number is 0, and all but a span leave everything
+giving-refused : {A B : Type 0} (b : B) (r : Result A) {n : ℕ} → giving b r ≡ refused n → r ≡ refused n
+giving-refused b (refused m) e = ap refused (ap numberOf e)
+giving-refused b (gives a) e = absurd (not-both e refl)
+
+apply-never : (bytes : List ℕ) (s : Tracker) → applyGot (readOf bytes) s .result ≡ refused 0 → ⊥
+apply-never bytes s r = result-cases (readOf bytes)
+    (λ g e. apply-some (g .event) s (giving-refused (g .taken) (applyOf (g .event) s .result) (sym (ap (λ z. applyGot z s .result) e) ∙ r)))
+    (λ n e. read-some bytes e (ap numberOf (sym (ap (λ z. applyGot z s .result) e) ∙ r)))
+
+apply-sound : (bytes : List ℕ) (s : Tracker) → ((g : Got) → readOf bytes ≡ gives g → isSpan (g .event) ≡ false) → Sound (applyGot (readOf bytes) s) s
+apply-sound bytes s other = result-cases (readOf bytes)
     (λ g e. apply-either s (g .event)
     (λ left t. accepts (g .taken) (ap (λ o. o .result) (got-is bytes s e (t .is))))
-    (λ n q. refuses n (λ z. apply-some (g .event) s (ap (λ o. o .result) q ∙ ap refused z)) (got-is bytes s e q)))
+    (λ n left q.
+    let is = ap (λ o. o .result) (q .is) in
+    let same : left ≡ s = sym (ap (λ o. o .left) (q .is)) ∙ untouched .by-apply (g .event) s n (other g e) is in
+    refuses n (λ z. apply-some (g .event) s (is ∙ ap refused z)) (got-is bytes s e (q .is) ∙ ap (outcome (refused n)) same)))
     (λ n e. refuses n (read-some bytes e) (ap (λ z. applyGot z s) e))
+
+span-never : (offset bytes : ℕ) (s : Tracker) → spanOf offset bytes s .result ≡ refused 0 → ⊥
+unfolding applyOf
+span-never offset bytes s = apply-some (event.Span offset bytes) s
 
 -- ---- any call on the words
 
 -- what is put leaves as many words, and those past the record
 past-put : (kept : Record) (w : List ℕ) → (length (put kept w) ≡ length w) × (drop 9 (put kept w) ≡ drop 9 w)
 past-put kept w = (put-length kept w, cases (fewWords w) (λ e. rw e) (λ e. rw e))
-
-past-stored : (b : Bool) (kept : Record) (w : List ℕ) → (length (storedIf b kept w) ≡ length w) × (drop 9 (storedIf b kept w) ≡ drop 9 w)
-past-stored true kept w = past-put kept w
-past-stored false kept w = (refl, refl)
 
 enough-put : (kept : Record) (w : List ℕ) → fewWords w ≡ false → fewWords (put kept w) ≡ false
 enough-put kept w e = ap (λ n. ltb n 9) (put-length kept w) ∙ e
@@ -212,13 +227,25 @@ module _ {A : Type 0} (call : Tracker → Outcome A Tracker) (h : Held) where
   held-past = cases (fewWords (h .words))
       (λ e. subst (λ z. SamePast h (z .left)) (sym (by-words call h true e)) (refl, refl))
       (λ e. subst (λ z. SamePast h (z .left)) (sym (by-words call h false e))
-      (past-stored (eqb (numberOf (call (trackerIn h) .result)) 0) (call (trackerIn h) .left .kept) (h .words)))
+      (past-put (call (trackerIn h) .left .kept) (h .words)))
+
+  held-zero : (call (trackerIn h) .result ≡ refused 0 → ⊥)
+      → ZeroWhen (numberOf (onHeld call h .result)) (AcceptedOn (h .words) (call (trackerIn h) .result))
+  held-zero some-number = words-zero (h .words) (call (trackerIn h) .result) some-number
+      (λ e. ap (λ o. numberOf (o .result)) (by-words call h true e)) (λ e. ap (λ o. numberOf (o .result)) (by-words call h false e))
+
+  -- with enough words, what is held is what the rules left
+  module _ (e : fewWords (h .words) ≡ false) where
+    held-is : trackerIn (onHeld call h .left) ≡ call (trackerIn h) .left
+    held-is = ap (λ o. trackerIn (o .left)) (by-words call h false e) ∙ held-put h (call (trackerIn h) .left) e
+
+    held-enough : fewWords (onHeld call h .left .words) ≡ false
+    held-enough = ap (λ o. fewWords (o .left .words)) (by-words call h false e) ∙ enough-put (call (trackerIn h) .left .kept) (h .words) e
+
+    held-run : (past : List Reference) → Run past (call (trackerIn h) .left) → HoldsRun past (onHeld call h .left)
+    held-run past run = record { enough = held-enough; run = subst (Run past) (sym held-is) run }
 
   module _ (sound : Sound (call (trackerIn h)) (trackerIn h)) where
-    held-zero : ZeroWhen (numberOf (onHeld call h .result)) (AcceptedOn (h .words) (call (trackerIn h) .result))
-    held-zero = words-zero (h .words) (call (trackerIn h) .result) (never sound)
-        (λ e. ap (λ o. numberOf (o .result)) (by-words call h true e)) (λ e. ap (λ o. numberOf (o .result)) (by-words call h false e))
-
     held-was : (numberOf (onHeld call h .result) ≡ 0 → ⊥) → onHeld call h .left ≡ h
     held-was nonzero = cases (fewWords (h .words))
         (λ e. ap (λ o. o .left) (by-words call h true e))
@@ -226,19 +253,7 @@ module _ {A : Type 0} (call : Tracker → Outcome A Tracker) (h : Held) where
       where
         by : fewWords (h .words) ≡ false → Sound (call (trackerIn h)) (trackerIn h) → keeping h (call (trackerIn h)) .left ≡ h
         by e (accepts a r) = absurd (nonzero (ap (λ o. numberOf (o .result)) (by-words call h false e) ∙ ap numberOf r))
-        by e (refuses n k r) = ap (λ o. keeping h o .left) r ∙ ap (λ z. held z (h .tables)) (stored-same (eqb n 0) (h .words))
-
-    -- accepted: what is held is what the rules left
-    held-run : (past : List Reference) → numberOf (onHeld call h .result) ≡ 0 → Run past (call (trackerIn h) .left)
-        → HoldsRun past (onHeld call h .left)
-    held-run past z run =
-        let e = held-zero .0 z .0 in
-        let after = call (trackerIn h) .left in
-        let number = accepted-zero (call (trackerIn h) .result) (held-zero .0 z .1) in
-        let is : onHeld call h .left ≡ held (put (after .kept) (h .words)) (after .tables) =
-        ap (λ o. o .left) (by-words call h false e) ∙ ap (λ n. held (storedIf (eqb n 0) (after .kept) (h .words)) (after .tables)) number in
-        subst (HoldsRun past) (sym is)
-        (record { enough = enough-put (after .kept) (h .words) e; run = subst (Run past) (sym (held-put h after e)) run })
+        by e (refuses n k r) = ap (λ o. keeping h o .left) r ∙ ap (λ z. held z (h .tables)) (put-same (h .words))
 
 -- ---- points, on the words
 
@@ -350,9 +365,12 @@ module _ (bytes : List ℕ) (h : Held) where
       record {
         events = [];
         are = subst (λ n. Events (take n bytes) []) (sym (ap (λ o. o .value .taken) (fed-by bytes h true e))) none;
+        made = [];
+        rest = [];
+        first-part = λ enough. clash e enough;
         continued = λ past holds. subst (HoldsRun past) (sym left) holds;
         from-fresh-start = λ b. clash b refl;
-        only-needed = subst (λ z. SameBeyond (mostNeeded [] (recordOf (h .words) .settings)) (h .tables) (z .tables)) (sym left)
+        only-needed = subst (λ z. SameBeyond (mostNeeded [] [] (recordOf (h .words) .settings)) (h .tables) (z .tables)) (sym left)
             (same-all _ (h .tables));
       })
       (λ e.
@@ -360,18 +378,46 @@ module _ (bytes : List ℕ) (h : Held) where
       record {
         events = r .events;
         are = subst (λ n. Events (take n bytes) (r .events)) (sym (taken-is e)) (r .are);
-        continued = λ past holds. fed-held (pastOf (r .events) past) e (r .continued past (holds .run));
-        from-fresh-start = λ b past. fed-held (pastOf (r .events) past) e (r .from-fresh-start b past);
+        made = r .made;
+        rest = r .rest;
+        first-part = λ enough. r .first-part ∙ ap (λ n. referencesNext (readOf (drop n bytes))) (sym (taken-is e));
+        continued = λ past holds. fed-held (onto (r .made) (pastOf (r .events) past)) e (r .continued past (holds .run));
+        from-fresh-start = λ b past. fed-held (onto (r .made) (pastOf (r .events) past)) e (r .from-fresh-start b past);
         only-needed =
-            subst (λ z. SameBeyond (mostNeeded (r .events) (recordOf (h .words) .settings)) (h .tables) (z .left .tables))
+            subst (λ z. SameBeyond (mostNeeded (r .events) (r .made) (recordOf (h .words) .settings)) (h .tables) (z .left .tables))
             (sym (fed-by bytes h false e)) (r .only-needed);
       })
 
+-- what applying leaves, by what was read; and the words of one record written over those of another are its own
+apply-left : (r : Result Got) (s : Tracker) → applyGot r s .left ≡ leftBy r s
+apply-left (refused n) s = refl
+apply-left (gives g) s = refl
+
+put-put : (a b : Record) (w : List ℕ) → fewWords w ≡ false → put a (put b w) ≡ put a w
+put-put a b w e = ap (λ z. cond z (put b w) (over (wordsOf a) (put b w))) (enough-put b w e) ∙ rw e
+
 pub fed-alone : FedAlone
 fed-alone bytes h e =
-    let f = feedOf bytes (trackerIn h) in
-    ap (λ n. feedIn (take n bytes) h) (taken-is bytes h e) ∙ fed-by (take (f .taken) bytes) h false e ∙ ap (fedIn h) (taken-alone bytes (trackerIn h))
-    ∙ sym (λ i. returned (fedWords (taken-is bytes h e i) (gives whole)) (fed-by bytes h false e i .left))
+    let s = trackerIn h in
+    let f = feedOf bytes s in
+    let w = taken-alone bytes s in
+    let between = held (put (w .between .kept) (h .words)) (w .between .tables) in
+    let enough = enough-put (w .between .kept) (h .words) e in
+    record {
+      between = between;
+      before =
+          ap (λ n. feedIn (take n bytes) h) (taken-is bytes h e) ∙ fed-by (take (f .taken) bytes) h false e ∙ ap (fedIn h) (w .before)
+          ∙ sym (ap (λ n. returned (fedWords n (gives whole)) between) (taken-is bytes h e));
+      left-is = ap (λ o. o .left) (fed-by bytes h false e)
+          ∙ ap (λ z. held (put (z .kept) (h .words)) (z .tables)) (w .left-is)
+          ∙ sym (ap (λ n. applyIn (drop n bytes) between .left) (taken-is bytes h e)
+          ∙ ap (λ o. o .left) (by-words (applyGot (readOf (drop (f .taken) bytes))) between false enough)
+          ∙ ap (λ z. held (put (z .kept) (between .words)) (z .tables))
+          (ap (λ z. applyGot (readOf (drop (f .taken) bytes)) z .left) (held-put h (w .between) e)
+          ∙ apply-left (readOf (drop (f .taken) bytes)) (w .between))
+          ∙ ap (λ l. held l (leftBy (readOf (drop (f .taken) bytes)) (w .between) .tables))
+          (put-put (leftBy (readOf (drop (f .taken) bytes)) (w .between) .kept) (w .between .kept) (h .words) e));
+    }
 
 -- ---- demand 1
 
@@ -388,22 +434,45 @@ restart-zero : (h : Held) → ZeroWhen (restartIn h .value) (AcceptedOn (h .word
 restart-zero h =
     let kept = recordOf (h .words) in
     let o = restartOf kept (h .tables) in
-    let zero = held-zero restartOver h (restart-sound (trackerIn h)) in (
+    let zero = held-zero restartOver h (never (restart-sound (trackerIn h))) in (
       (λ z. (zero .0 z .0, over-accepted kept (o .result) (o .left) (zero .0 z .1))),
       (λ p. zero .1 (p .0, accepted-over kept (o .result) (o .left) (p .1))),
     )
+
+-- a span: 10, or the call of the rules
+span-cases : {C : Type 0} (offset bytes : ℕ) (h : Held) → (overrun offset bytes ≡ true → spanIn offset bytes h ≡ returned 10 h → C)
+    → (overrun offset bytes ≡ false → spanIn offset bytes h ≡ returning numberOf (onHeld (spanOf offset bytes) h) → C) → C
+span-cases offset bytes h over within = cases (overrun offset bytes)
+    (λ o. over o (span-by offset bytes h true o))
+    (λ o. within o (span-by offset bytes h false o))
+
+overrun-refused : (offset bytes : ℕ) (s : Tracker) → overrun offset bytes ≡ true → spanOf offset bytes s ≡ outcome (refused 10) s
+unfolding spanOf
+overrun-refused offset bytes s o = rw o
+
+span-zero : (offset bytes : ℕ) (h : Held) → ZeroWhen (spanIn offset bytes h .value) (AcceptedOn (h .words) (spanOf offset bytes (trackerIn h) .result))
+span-zero offset bytes h = span-cases offset bytes h
+    (λ o e. (
+      (λ z. absurd (ten-not-zero (sym (ap (λ r. r .value) e) ∙ z))),
+      (λ p. absurd (subst Accepted (ap (λ r. r .result) (overrun-refused offset bytes (trackerIn h) o)) (p .1))),
+    ))
+    (λ o e. zero-by (ap (λ r. r .value) e) (held-zero (spanOf offset bytes) h (span-never offset bytes (trackerIn h))))
+  where
+    ten-not-zero : _≡_ {A = ℕ} 10 0 → ⊥
+    ten-not-zero e = omega arith
 
 pub zero-is-accepted : ZeroIsAccepted
 zero-is-accepted = record {
   of-setup = setup-zero;
   of-restart = λ h. restart-zero h;
-  of-refer = λ x h. zero-by (answer-number (onHeld (referOf x) h .result)) (held-zero (referOf x) h (refer-sound x (trackerIn h)));
+  of-refer = λ x h. zero-by (answer-number (onHeld (referOf x) h .result)) (held-zero (referOf x) h (never (refer-sound x (trackerIn h))));
+  of-span = span-zero;
   of-point = λ w b k g. zero-by (point-number (onWords w (pointOf (recordOf w) b k g)))
       (on-words-zero w (pointOf (recordOf w) b k g) (point-some (recordOf w) b k g));
   of-plot = λ w b k g. zero-by (plot-number (onWords w (plotOf (recordOf w) b k g)))
       (on-words-zero w (plotOf (recordOf w) b k g) (plot-some (recordOf w) b k g));
   of-apply = λ bytes h. zero-by (applied-number (onHeld (applyGot (readOf bytes)) h .result))
-      (held-zero (applyGot (readOf bytes)) h (apply-sound bytes (trackerIn h)));
+      (held-zero (applyGot (readOf bytes)) h (apply-never bytes (trackerIn h)));
   of-feed = feed-zero;
   of-read = λ bytes. zero-by (event-number (readOf bytes)) (zero-when (readOf bytes) (λ e. read-some bytes e refl));
   of-write = λ e buffer. zero-by (written-number (writeOf e buffer .result)) (zero-when (writeOf e buffer .result) (write-some e buffer));
@@ -423,7 +492,7 @@ left-as-it-was = record {
   by-setup = setup-was;
   by-restart = λ h. held-was restartOver h (restart-sound (trackerIn h));
   by-refer = λ x h nonzero. held-was (referOf x) h (refer-sound x (trackerIn h)) (λ z. nonzero (answer-number (onHeld (referOf x) h .result) ∙ z));
-  by-apply = λ bytes h nonzero. held-was (applyGot (readOf bytes)) h (apply-sound bytes (trackerIn h))
+  by-apply = λ bytes h other nonzero. held-was (applyGot (readOf bytes)) h (apply-sound bytes (trackerIn h) other)
       (λ z. nonzero (applied-number (onHeld (applyGot (readOf bytes)) h .result) ∙ z));
   by-write = write-was;
 }
@@ -433,20 +502,31 @@ too-few-words = record {
   for-setup = λ given h e. sym (setup-few h given e refl);
   for-restart = λ h e. ap (returning numberOf) (by-words restartOver h true e);
   for-refer = λ x h e. ap (returning answerWords) (by-words (referOf x) h true e);
+  for-span = λ offset bytes h o e. span-by offset bytes h false o ∙ ap (returning numberOf) (by-words (spanOf offset bytes) h true e);
   for-point = λ w b k g e. ap pointWords (few-words w (pointOf (recordOf w) b k g) e);
   for-plot = λ w b k g e. ap plotWords (few-words w (plotOf (recordOf w) b k g) e);
   for-apply = λ bytes h e. ap (returning appliedWords) (by-words (applyGot (readOf bytes)) h true e);
   for-feed = λ bytes h e. fed-by bytes h true e;
 }
 
+pub overrun-in : OverrunIn
+overrun-in offset bytes h o = span-by offset bytes h true o
+
 pub past-the-record : PastTheRecord
 past-the-record = record {
   by-setup = setup-past;
   by-restart = λ h. held-past restartOver h;
   by-refer = λ x h. held-past (referOf x) h;
+  by-span = λ offset bytes h. span-cases offset bytes h
+      (λ o e. subst (λ r. SamePast h (r .left)) (sym e) (refl, refl))
+      (λ o e. subst (λ r. SamePast h (r .left)) (sym e) (held-past (spanOf offset bytes) h));
   by-apply = λ bytes h. held-past (applyGot (readOf bytes)) h;
   by-feed = feed-past;
 }
+
+span-beyond : (offset bytes : ℕ) (s : Tracker) → SameBeyond (neededBy (s .kept .settings)) (s .tables) (spanOf offset bytes s .left .tables)
+unfolding applyOf
+span-beyond offset bytes s = only-needed .by-apply (event.Span offset bytes) s
 
 pub only-needed-in : OnlyNeededIn
 only-needed-in = record {
@@ -459,6 +539,12 @@ only-needed-in = record {
       (subst same (sym (started-tables kept (o .result) (o .left))) (only-needed .by-restart kept (h .tables)));
   by-refer = λ x h. held-tables (referOf x) h (SameBeyond (neededBy (recordOf (h .words) .settings)) (h .tables)) (same-all _ (h .tables))
       (only-needed .by-refer x (trackerIn h));
+  by-span = λ offset bytes h.
+      let same = SameBeyond (neededBy (recordOf (h .words) .settings)) (h .tables) in
+      span-cases offset bytes h
+      (λ o e. subst (λ r. same (r .left .tables)) (sym e) (same-all _ (h .tables)))
+      (λ o e. subst (λ r. same (r .left .tables)) (sym e)
+      (held-tables (spanOf offset bytes) h same (same-all _ (h .tables)) (span-beyond offset bytes (trackerIn h))));
   by-apply = λ bytes g h e.
       let same = SameBeyond (neededBy (settingsUnder (g .event) (recordOf (h .words) .settings))) (h .tables) in
       held-tables (applyGot (readOf bytes)) h same (same-all _ (h .tables))
@@ -484,7 +570,7 @@ stale-in past h holds believed k d =
 -- ---- calls are a run
 
 restart-run : (h : Held) → restartIn h .value ≡ 0 → HoldsRun [] (restartIn h .left)
-restart-run h z = held-run restartOver h (restart-sound (trackerIn h)) [] z
+restart-run h z = held-run restartOver h (restart-zero h .0 z .0) []
     (restart-either (recordOf (h .words)) (h .tables)
     (λ b. subst (Run []) (sym (ap (λ o. startedOver (recordOf (h .words)) (o .result) (o .left) .left) (b .is)))
     (restart (recordOf (h .words)) (h .tables) (b .is)))
@@ -501,10 +587,10 @@ module _ (past : List Reference) (x : Reference) (h : Held) (holds : HoldsRun pa
   answered : {C : Type 0} → ((r : Reply) → referOf x s ≡ outcome (gives r) (referOf x s .left) → C) → C
   answered f = result-cases (referOf x s .result)
       (λ r e. f r (λ i. outcome (e i) (referOf x s .left)))
-      (λ n e. absurd (subst Accepted e (held-zero (referOf x) h (refer-sound x s) .0 is-zero .1)))
+      (λ n e. absurd (subst Accepted e (held-zero (referOf x) h (never (refer-sound x s)) .0 is-zero .1)))
 
   refer-run : HoldsRun (x ∷ past) (referIn x h .left)
-  refer-run = answered (λ r e. held-run (referOf x) h (refer-sound x s) (x ∷ past) is-zero (refer (holds .run) e))
+  refer-run = answered (λ r e. held-run (referOf x) h (holds .enough) (x ∷ past) (refer (holds .run) e))
 
   refer-answer : referIn x h .value ≡ answerWords (gives (historyReply s past x))
   refer-answer = answered (λ r e.
@@ -516,17 +602,19 @@ module _ (bytes : List ℕ) (g : Got) (h : Held) (read : readOf bytes ≡ gives 
   event-number-zero : numberOf (onHeld (applyGot (readOf bytes)) h .result) ≡ 0
   event-number-zero = sym (applied-number (onHeld (applyGot (readOf bytes)) h .result)) ∙ z
 
+  event-accepted : AcceptedOn (h .words) (applyGot (readOf bytes) (trackerIn h) .result)
+  event-accepted = held-zero (applyGot (readOf bytes)) h (apply-never bytes (trackerIn h)) .0 event-number-zero
+
   -- it was taken, and left a run
   took : {C : Type 0} → ((left : Tracker) → Took (g .event) (trackerIn h) left → applyGot (readOf bytes) (trackerIn h) .left ≡ left → C) → C
   took f = apply-either (trackerIn h) (g .event)
       (λ left t. f left t (ap (λ o. o .left) (got-is bytes (trackerIn h) read (t .is))))
-      (λ n q. absurd (subst Accepted (ap (λ o. o .result) (got-is bytes (trackerIn h) read q))
-      (held-zero (applyGot (readOf bytes)) h (apply-sound bytes (trackerIn h)) .0 event-number-zero .1)))
+      (λ n left q. absurd (subst Accepted (ap (λ o. o .result) (got-is bytes (trackerIn h) read (q .is))) (event-accepted .1)))
 
   event-run : (past : List Reference)
       → ((left : Tracker) → Took (g .event) (trackerIn h) left → Run past left) → HoldsRun past (applyIn bytes h .left)
   event-run past runs = took (λ left t e.
-      held-run (applyGot (readOf bytes)) h (apply-sound bytes (trackerIn h)) past event-number-zero (subst (Run past) (sym e) (runs left t)))
+      held-run (applyGot (readOf bytes)) h (event-accepted .0) past (subst (Run past) (sym e) (runs left t)))
 
 -- the history after a fresh start is empty
 fresh-past : (e : Event) → freshStart e ≡ true → pastAfter e [] ≡ []
@@ -535,11 +623,74 @@ fresh-past (event.Span offset n) b = clash b refl
 fresh-past event.Restart b = refl
 fresh-past (event.Setup body) b = refl
 
+-- references that were made one by one
+module _ (e : Event) (h : Held) (enough : fewWords (h .words) ≡ false) {A : Type 0} (call : Tracker → Outcome A Tracker) where
+  part-made : (o : Outcome (Unit {0}) Tracker) (number : ℕ) → OneByOne (overruns e) (referencesOf e) (trackerIn h) o
+      → call (trackerIn h) .left ≡ o .left → number ≡ numberOf (o .result) → PartMade e h number (onHeld call h .left)
+  part-made o number one left is =
+      let after = held-is call h enough in
+      let w = subst (λ z. OneByOne (overruns e) (referencesOf e) (trackerIn h) (outcome (o .result) z)) (sym (after ∙ left)) one in
+      record {
+        result = o .result;
+        numbered = is;
+        one-by-one = w;
+        counted = w .counted;
+        continued = λ past holds. record { enough = held-enough call h enough; run = w .continued past (holds .run) };
+      }
+
+module _ (offset bytes : ℕ) (h : Held) (enough : fewWords (h .words) ≡ false) where
+  abbrev span : Event
+  span = event.Span offset bytes
+
+  one-span : OneByOne (overruns span) (referencesOf span) (trackerIn h) (spanOf offset bytes (trackerIn h))
+  unfolding applyOf
+  one-span = events-one-by-one span (trackerIn h) refl
+
+  -- 10 leaves what the rules' call leaves, and is its number
+  span-is : spanIn offset bytes h ≡ returning numberOf (onHeld (spanOf offset bytes) h)
+  span-is = span-cases offset bytes h
+      (λ o e. e ∙ sym (ap (returning numberOf) (by-words (spanOf offset bytes) h false enough)
+      ∙ ap (λ z. returning numberOf (keeping h z)) (overrun-refused offset bytes (trackerIn h) o)
+      ∙ ap (λ l. returned 10 (held l (h .tables))) (put-same (h .words))))
+      (λ o e. e)
+
+  span-made : PartMade span h (spanIn offset bytes h .value) (spanIn offset bytes h .left)
+  span-made = subst (λ r. PartMade span h (r .value) (r .left)) (sym span-is)
+      (part-made span h enough (spanOf offset bytes) (spanOf offset bytes (trackerIn h)) _ one-span refl
+      (ap (λ o. numberOf (o .result)) (by-words (spanOf offset bytes) h false enough)))
+
+giving-number : {A B : Type 0} (b : B) (r : Result A) → numberOf (giving b r) ≡ numberOf r
+giving-number b (refused n) = refl
+giving-number b (gives a) = refl
+
+apply-made : (bytes : List ℕ) (g : Got) (h : Held) → fewWords (h .words) ≡ false → readOf bytes ≡ gives g → freshStart (g .event) ≡ false
+    → PartMade (g .event) h (applyIn bytes h .value .refusal) (applyIn bytes h .left)
+apply-made bytes g h enough read not =
+    let call = applyGot (readOf bytes) in
+    let o = applyOf (g .event) (trackerIn h) in
+    part-made (g .event) h enough call o _ (events-one-by-one (g .event) (trackerIn h) not) (ap (λ z. z .left) (got-is bytes (trackerIn h) read refl))
+    (applied-number (onHeld call h .result) ∙ ap (λ z. numberOf (z .result)) (by-words call h false enough)
+    ∙ ap (λ z. numberOf (z .result)) (got-is bytes (trackerIn h) read refl) ∙ giving-number (g .taken) (o .result))
+
+pub one-by-one-in : OneByOneIn
+one-by-one-in = record { by-span = span-made; by-apply = apply-made }
+
+-- a span that is accepted
+span-run : (past : List Reference) (offset bytes : ℕ) (h : Held) → HoldsRun past h → spanIn offset bytes h .value ≡ 0
+    → HoldsRun (pastAfter (event.Span offset bytes) past) (spanIn offset bytes h .left)
+unfolding applyOf
+span-run past offset bytes h holds z = apply-either (trackerIn h) (event.Span offset bytes)
+    (λ left t. subst (λ r. HoldsRun (pastAfter (event.Span offset bytes) past) (r .left)) (sym (span-is offset bytes h (holds .enough)))
+    (held-run (spanOf offset bytes) h (holds .enough) _
+    (subst (Run (pastAfter (event.Span offset bytes) past)) (sym (ap (λ o. o .left) (t .is))) (t .runs past (holds .run)))))
+    (λ n left q. absurd (subst Accepted (ap (λ o. o .result) (q .is)) (span-zero offset bytes h .0 z .1)))
+
 pub calls-are-a-run : CallsAreARun
 calls-are-a-run = record {
   by-setup = setup-run;
   by-restart = restart-run;
   by-refer = λ past x h holds z. (refer-run past x h holds z, refer-answer past x h holds z);
+  by-span = span-run;
   by-apply = λ bytes g h read z past holds. event-run bytes g h read z (pastAfter (g .event) past) (λ left t. t .runs past (holds .run));
   by-fresh-start = λ bytes g h read b z.
       event-run bytes g h read z [] (λ left t. subst (λ p. Run p left) (fresh-past (g .event) b) (t .begins b []));

@@ -8,7 +8,8 @@ use Rattle.rules.specs.declared.Shape.{Shape}
 use Rattle.rules.specs.declared.Event.{Event}
 use Rattle.rules.specs.Settings.{Histogram, Tables}
 use Rattle.words.specs.Words.{Returned, returned}
-use Rattle.driver.specs.Calls.{version, hashIn, Held, held, setupIn, restartIn, referIn, pointIn, plotIn, applyIn, feedIn, readIn, writeIn}
+use Rattle.driver.specs.Calls.{version, hashIn, Held, held, setupIn, restartIn, referIn, spanIn, pointIn, plotIn, applyIn, feedIn, readIn}
+use Rattle.driver.specs.Calls.{writeIn}
 
 -- a value
 abbrev Once : {A : Type 0} → A → Type 0
@@ -40,6 +41,9 @@ restart-once h = held-once _
 
 pub refer-once : (location : ℕ) (h : Held) → HeldOnce (referIn location h)
 refer-once location h = held-once _
+
+pub span-once : (offset bytes : ℕ) (h : Held) → HeldOnce (spanIn offset bytes h)
+span-once offset bytes h = held-once _
 
 pub point-once : (words : List ℕ) (believed : Shape) (number : ℕ) (g : Histogram) → Once (pointIn words believed number g)
 point-once words believed number g = once _

@@ -1,5 +1,4 @@
--- Words that are too few are refused. Else by what `read` answered: an event, and the call is `feed` of that event and the words' own record,
--- which is stored if it was taken; or a refusal, which is handed on.
+-- Words that are too few are refused. Else by what `read` answered: an event, which is fed alone; or a refusal, which is handed on.
 use mathlib.Core.Path.{sym, ap, _∙_}
 use denote.Ref.{now}
 use lib.Seq.{length-take-le}
@@ -9,19 +8,19 @@ use Rattle.rules.specs.Layout.{tablesOf}
 use Rattle.rules.proofs.Events.{taken}
 use Rattle.words.specs.Words.{appliedWords, appliedFrom}
 use Rattle.driver.specs.Calls.{held, applyGot}
-use Rattle.driver.proofs.Laws.{too-few, apply-unread, apply-stored}
+use Rattle.driver.proofs.Laws.{too-few, apply-unread, apply-fed}
 use borrow.Author.Needs.{needs}
 use Rattle.driver.proofs.rockgingham_apply_v2.Statement.{statement}
 use Rattle.driver.proofs.rockgingham_apply_v2.Tie as tie
 
 too-few-requires : tie.Need-too-few-requires
-too-few-requires c κs = tt
+too-few-requires c κs = search needs
 
 fed-words-requires : tie.Need-fed-words-requires
-fed-words-requires c κs = tt
+fed-words-requires c κs = search needs
 
 applied-words-requires : tie.Need-applied-words-requires
-applied-words-requires c κs = tt
+applied-words-requires c κs = search needs
 
 same-length : tie.Need-same-length
 same-length c = search needs
@@ -34,40 +33,31 @@ returns c =
     (c .applied-words .ensures ∙ ap appliedFrom (c .before .fed-words .ensures))
 
 read-requires : tie.Need-read-requires
-read-requires c κs = tt
+read-requires c κs = search needs
 
 enum-known-taken : tie.Need-enum-known-taken
 enum-known-taken c = search needs
 
-slice-aggregate-event : tie.Need-slice-aggregate-event
-slice-aggregate-event c =
-    let got = c .before .before in
+slice-aggregate-feed-stored : tie.Need-slice-aggregate-feed-stored
+slice-aggregate-feed-stored c =
+    let got = c .before .before .before in
     let read = got .before .before in
     sym (length-take-le _ _ (taken _ (sym (read .read .ensures) ∙ ap readingResult (got .taken .given .1)) .1))
 
-record-of-requires : tie.Need-record-of-requires
-record-of-requires c κs = tt
-
-feed-requires : tie.Need-feed-requires
-feed-requires c κs = tt
-
-fed-words-requires-2 : tie.Need-fed-words-requires-2
-fed-words-requires-2 c κs = tt
-
-store-if-requires : tie.Need-store-if-requires
-store-if-requires c κs = tt
+feed-stored-requires : tie.Need-feed-stored-requires
+feed-stored-requires c κs = search needs
 
 applied-words-requires-2 : tie.Need-applied-words-requires-2
-applied-words-requires-2 c κs = tt
+applied-words-requires-2 c κs = search needs
 
 enum-known-why : tie.Need-enum-known-why
 enum-known-why c = search needs
 
-fed-words-requires-3 : tie.Need-fed-words-requires-3
-fed-words-requires-3 c κs = tt
+fed-words-requires-2 : tie.Need-fed-words-requires-2
+fed-words-requires-2 c κs = search needs
 
 applied-words-requires-3 : tie.Need-applied-words-requires-3
-applied-words-requires-3 c κs = tt
+applied-words-requires-3 c κs = search needs
 
 same-length-2 : tie.Need-same-length-2
 same-length-2 c = search needs
@@ -83,15 +73,12 @@ same-length-5 c = search needs
 
 returns-2 : tie.Need-returns-2
 returns-2 c =
-    let called = c .before .before .before .before .before .before .before .before .before .before .before .before .before in
-    let read = called .before .before .before .before .before .before .before .before .before .before in
+    let read = c .before .before .before .before .before .before .before .before .before .before .before .before .before .before .before .before .before .before in
     let a = read .before .before .before .before .before .before .before .before .before .args in
-    apply-stored _ (held (now (a .words)) (tablesOf (now (a .locations)) (now (a .counts)) (now (a .thresholds))))
+    apply-fed _ (held (now (a .words)) (tablesOf (now (a .locations)) (now (a .counts)) (now (a .thresholds))))
     (sym (read .before .before .too-few .ensures) ∙ read .before .if1 .left)
-    (sym (read .read .ensures) ∙ ap readingResult (called .before .before .before .before .before .before .before .before .taken .given .1))
-    (rw (called .before .before .before .before .record-of .ensures) at (called .feed .ensures))
-    (c .applied-words2 .ensures ∙ ap appliedFrom (c .before .before .before .before .before .before .fed-words2 .ensures))
-    (c .before .before .before .store-if .ensures)
+    (sym (read .read .ensures) ∙ ap readingResult (c .before .before .before .before .before .before .before .before .before .before .before .before .before .before .before .before .taken .given .1)) (c .before .before .before .before .before .before .before .before .before .feed-stored .ensures)
+    (c .applied-words2 .ensures)
 
 same-length-6 : tie.Need-same-length-6
 same-length-6 c = search needs
@@ -101,7 +88,7 @@ returns-3 c =
     let read = c .before .before .before .before .before in
     apply-unread _ _ (sym (read .before .before .too-few .ensures) ∙ read .before .if1 .left)
     (sym (read .read .ensures) ∙ ap readingResult (c .before .before .before .why .given .1))
-    (c .applied-words3 .ensures ∙ ap appliedFrom (c .before .fed-words3 .ensures))
+    (c .applied-words3 .ensures ∙ ap appliedFrom (c .before .fed-words2 .ensures))
 
 pub rockgingham-apply-v2-spec : {M : Type 1} → statement M
 rockgingham-apply-v2-spec =
@@ -114,14 +101,11 @@ rockgingham-apply-v2-spec =
     returns
     read-requires
     enum-known-taken
-    slice-aggregate-event
-    record-of-requires
-    feed-requires
-    fed-words-requires-2
-    store-if-requires
+    slice-aggregate-feed-stored
+    feed-stored-requires
     applied-words-requires-2
     enum-known-why
-    fed-words-requires-3
+    fed-words-requires-2
     applied-words-requires-3
     same-length-2
     same-length-3
