@@ -31,8 +31,11 @@
  *
  * REFUSALS. Every call that can be refused gives the refusal first: ROCKGINGHAM_ACCEPTED (0) if it did what it was asked, or one
  * of enum rockgingham_refusal. If several apply, it gives the first in the order that the function's comment names. All other
- * fields of what a refused call returns are 0. A refused call stores nothing: no word of a record, no entry of a table, no byte
- * of a buffer, not even the value that is there already. rockgingham_feed is the one exception, see there.
+ * fields of what a refused call returns are 0, except what rockgingham_feed has taken. A refused call stores nothing: no word of
+ * a record, no entry of a table, no byte of a buffer, not even the value that is there already. There are two exceptions:
+ *   - rockgingham_feed keeps what the events before the refused one did;
+ *   - a span, by rockgingham_refer_span or as an event by rockgingham_apply or rockgingham_feed, is several references, made one
+ *     after the other. If one of them is refused, those before it stay counted. See rockgingham_refer_span.
  *
  * WHAT THE CALLER MUST GUARANTEE. The proofs begin at the call; these are up to the caller:
  *   - each pointer is valid and aligned for its type, and never null: where there is nothing to lend, pass any object with
@@ -51,6 +54,7 @@
  *   - at most in proportion to B: setup, restart, a point, a plot;
  *   - at most in proportion to S: a reference that is sampled;
  *   - a short time, whatever S and B are: a reference that is Skipped, the hash, the version, reading and writing an event;
+ *   - a span: each of its references as above. A single one can stand for up to 2^20 + 1 references;
  *   - apply and feed: each event as the call that it stands for.
  */
 #ifndef ROCKGINGHAM_H
@@ -63,7 +67,7 @@
 extern "C" {
 #endif
 
-#define ROCKGINGHAM_VERSION 1
+#define ROCKGINGHAM_VERSION 2
 
 /* The names that carry the version. */
 #define ROCKGINGHAM_JOIN(name, version) name##_v##version
@@ -88,14 +92,17 @@ enum rockgingham_refusal {
     ROCKGINGHAM_REFUSED_POINT = 6,    /* the point's number is above the buckets */
     ROCKGINGHAM_REFUSED_SHORT = 7,    /* the event is incomplete, or there are no bytes at all */
     ROCKGINGHAM_REFUSED_KIND = 8,     /* the event's kind byte is 0 or above 4 */
-    ROCKGINGHAM_REFUSED_EMPTY = 9     /* the curve's total is 0 */
+    ROCKGINGHAM_REFUSED_EMPTY = 9,    /* the curve's total is 0 */
+    ROCKGINGHAM_REFUSED_OVERRUN = 10  /* the last byte of a span is past 2^64 - 1: its length is not 0, and offset + length - 1 is
+                                         above that */
 };
 
 /*
  * The record: what a tracker holds beside its tables, as 64-bit words in this order. It is lent with its number of words, as a
  * table is with its entries. It may have more words than ROCKGINGHAM_RECORD_WORDS; those are never read or written. If it has
- * fewer, it cannot be judged: every call but setup refuses it 2 before all else, and setup refuses it 2 after 1. The words may
- * hold anything: the calls that use them as a record refuse a torn one 3. Only setup, restart, refer, apply and feed change it.
+ * fewer, it cannot be judged: every call refuses it 2 before all else, but setup only after 1, and refer_span only after 10. The
+ * words may hold anything: the calls that use them as a record refuse a torn one 3. Only setup, restart, refer, refer_span, apply
+ * and feed change it.
  */
 enum rockgingham_word {
     ROCKGINGHAM_WORD_LIMIT,      /* the five settings, after defaults */
@@ -183,6 +190,22 @@ struct rockgingham_answer rockgingham_refer(uint64_t *record, size_t record_word
                                             uint32_t *thresholds, size_t thresholds_length);
 
 /*
+ * One I/O: a reference to each block that holds one of its bytes, from offset / 4,096 to (offset + length - 1) / 4,096, in rising
+ * order. A length of 0 makes none, and judges no record and no table. A single I/O can stand for up to 2^20 + 1 references.
+ *
+ * The references are made one after the other, each as by rockgingham_refer, until one is refused. The refused reference changes
+ * nothing and ends the call. Those before it stay counted: the record and the tables are left exactly as those alone would leave
+ * them. After the first reference, only 4, and 3 for a bucket, can occur. The refusal does not say how many references were made.
+ * The record does: subtract the value that word ROCKGINGHAM_WORD_REFERENCES had before the call from the value it has now. Do not
+ * pass the same I/O again: its first part would be counted twice.
+ *
+ * Returns the refusal: 10, with nothing changed; 2 for the record's words; then, for each reference, those of rockgingham_refer.
+ */
+uint64_t rockgingham_refer_span(uint64_t *record, size_t record_words, uint64_t offset, uint32_t length, uint64_t *locations,
+                                size_t locations_length, uint64_t *counts, size_t counts_length, uint32_t *thresholds,
+                                size_t thresholds_length);
+
+/*
  * The shape that the caller believes the curve to have: buckets and width after defaults, as they stand in the record after the
  * setup that the caller knows of. Keep it with the points that were planned with it, and pass it with each: if the tracker has
  * meanwhile been set up with other buckets or another width, the point is refused 5, whatever its number. Only 2, for too few
@@ -227,7 +250,7 @@ struct rockgingham_plot rockgingham_plot(const uint64_t *record, size_t record_w
 /*
  * Trace events: one byte of kind, then a body whose length depends on the kind. Numbers are little-endian.
  *   1 location   8 bytes: location                                    one reference
- *   2 span       12: byte offset (8), length (4)                      one reference to offset / 4,096, none if the length is 0
+ *   2 span       12: byte offset (8), length (4)                      one I/O, as by rockgingham_refer_span
  *   3 restart    none                                                 fresh start, same settings
  *   4 setup      17: limit, start, width, buckets (4 each), hash kind fresh start, these settings
  */
@@ -252,7 +275,9 @@ struct rockgingham_applied {
 };
 
 /*
- * Applies the first event of the bytes: makes the reference or the fresh start that it stands for, if it stands for one.
+ * Applies the first event of the bytes: makes the references or the fresh start that it stands for, if it stands for any. If a
+ * span is refused, the references before the refused one stay counted, as by rockgingham_refer_span. Do not apply the same event
+ * again: its first part would be counted twice.
  * Refusals: 2 for the record's words; those of rockgingham_read; those of the call that the event stands for. A span of length 0
  * judges no record and no table.
  */
@@ -268,10 +293,13 @@ struct rockgingham_fed {
 
 /*
  * Applies event after event of a piece of a trace, until the bytes end, the rest of them is the beginning of an event, or an
- * event is refused. An incomplete event is not refused and not taken: feed its bytes again with those that follow. A refused
- * event changes nothing; it begins right after the bytes taken, and the record and the tables are left exactly as feeding only
- * the bytes taken would leave them.
- * Refusals: 2 for the record's words, with no bytes too, and then nothing is taken; 8; those of the call that an event stands
+ * event is refused. An incomplete event is not refused and not taken: feed its bytes again with those that follow.
+ *
+ * A refused event is not taken: it begins right after the bytes taken. The record and the tables are left exactly as feeding only
+ * the bytes taken would leave them, unless the event is a span: then its references before the refused one stay counted too, as
+ * by rockgingham_refer_span. Do not feed that event again: its first part would be counted twice.
+ *
+ * Refusals: 2 for the record's words, with no bytes too, and then nothing is taken; 8; 10; those of the call that an event stands
  * for.
  */
 struct rockgingham_fed rockgingham_feed(uint64_t *record, size_t record_words, const uint8_t *bytes, size_t bytes_length,
@@ -290,7 +318,7 @@ struct rockgingham_event {
 
 /*
  * Reads the first event of the bytes. Numbers that its kind does not have are 0.
- * Refusals: 7 if there are no bytes, 8, 7.
+ * Refusals: 7 if there are no bytes, 8, 7, then 10 for a span.
  */
 struct rockgingham_event rockgingham_read(const uint8_t *bytes, size_t length);
 
@@ -301,7 +329,7 @@ struct rockgingham_written {
 
 /*
  * Each writes one event at the front of the buffer, and no byte after it.
- * Refusals: 2 if the buffer is shorter than the event.
+ * Refusals: 10 for a span, then 2 if the buffer is shorter than the event.
  */
 struct rockgingham_written rockgingham_write_location(uint64_t location, uint8_t *buffer, size_t buffer_length);
 struct rockgingham_written rockgingham_write_span(uint64_t offset, uint32_t length, uint8_t *buffer, size_t buffer_length);

@@ -6,7 +6,7 @@
 #![allow(dead_code)]
 
 /// ROCKGINGHAM_VERSION. The names under which setup, apply and feed are exported carry it, see below.
-pub const VERSION: u64 = 1;
+pub const VERSION: u64 = 2;
 
 /// ROCKGINGHAM_RECORD_WORDS: how many words a record has.
 pub const RECORD_WORDS: usize = 9;
@@ -91,7 +91,7 @@ pub struct CWritten {
 extern "C" {
     pub fn rockgingham_version() -> u64;
     pub fn rockgingham_hash(hash_kind: u64, location: u64) -> u64;
-    #[link_name = "rockgingham_setup_v1"]
+    #[link_name = "rockgingham_setup_v2"]
     pub fn rockgingham_setup(
         record: *mut u64,
         record_words: usize,
@@ -124,6 +124,18 @@ extern "C" {
         thresholds: *mut u32,
         thresholds_length: usize,
     ) -> CAnswer;
+    pub fn rockgingham_refer_span(
+        record: *mut u64,
+        record_words: usize,
+        offset: u64,
+        length: u32,
+        locations: *mut u64,
+        locations_length: usize,
+        counts: *mut u64,
+        counts_length: usize,
+        thresholds: *mut u32,
+        thresholds_length: usize,
+    ) -> u64;
     pub fn rockgingham_point(
         record: *const u64,
         record_words: usize,
@@ -144,7 +156,7 @@ extern "C" {
         thresholds: *const u32,
         thresholds_length: usize,
     ) -> CPlot;
-    #[link_name = "rockgingham_apply_v1"]
+    #[link_name = "rockgingham_apply_v2"]
     pub fn rockgingham_apply(
         record: *mut u64,
         record_words: usize,
@@ -157,7 +169,7 @@ extern "C" {
         thresholds: *mut u32,
         thresholds_length: usize,
     ) -> CApplied;
-    #[link_name = "rockgingham_feed_v1"]
+    #[link_name = "rockgingham_feed_v2"]
     pub fn rockgingham_feed(
         record: *mut u64,
         record_words: usize,
