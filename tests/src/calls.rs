@@ -1,7 +1,7 @@
 //! Calls of the static library, compared with the model: damaged records, tables of wrong lengths and random contents, and any bytes.
 
 use crate::driver::{self, lent_bytes, number_of, Driver, Lent};
-use crate::events::{first_event, some_event, some_trace};
+use crate::events::{first_event, some_event, some_span, some_trace};
 use crate::interface::CFed;
 use crate::model::*;
 use crate::random::Random;
@@ -27,6 +27,21 @@ pub const WANTED: &[(&str, &[&str])] = &[
             "TornBucket",
         ],
     ),
+    (
+        "refer_span",
+        &[
+            "accepted",
+            "length 0",
+            "Overrun",
+            "Words",
+            "TornRecord",
+            "Tables",
+            "Full",
+            "TornBucket",
+            "Full inside",
+            "TornBucket inside",
+        ],
+    ),
     ("point", POINT),
     ("plot", POINT),
     (
@@ -41,11 +56,14 @@ pub const WANTED: &[(&str, &[&str])] = &[
             "empty",
             "Kind",
             "Short",
+            "Overrun",
             "Settings",
             "TornRecord",
             "Tables",
             "Full",
             "TornBucket",
+            "Full inside",
+            "TornBucket inside",
         ],
     ),
     (
@@ -59,6 +77,8 @@ pub const WANTED: &[(&str, &[&str])] = &[
             "Words, empty",
             "Kind at once",
             "Kind later",
+            "Overrun at once",
+            "Overrun later",
             "Settings at once",
             "Settings later",
             "TornRecord at once",
@@ -69,15 +89,22 @@ pub const WANTED: &[(&str, &[&str])] = &[
             "Full later",
             "TornBucket at once",
             "TornBucket later",
+            "Full inside at once",
+            "Full inside later",
+            "TornBucket inside at once",
+            "TornBucket inside later",
         ],
     ),
     (
         "read",
         &[
-            "kind 1", "kind 2", "kind 3", "kind 4", "empty", "Short", "Kind",
+            "kind 1", "kind 2", "kind 3", "kind 4", "empty", "Short", "Kind", "Overrun",
         ],
     ),
-    ("write", &["kind 1", "kind 2", "kind 3", "kind 4", "Tables"]),
+    (
+        "write",
+        &["kind 1", "kind 2", "kind 3", "kind 4", "Overrun", "Tables"],
+    ),
     (
         "words lent",
         &[
@@ -104,6 +131,12 @@ fn name<T>(answer: &Result<T, Refusal>) -> String {
         Ok(_) => "accepted".to_string(),
         Err(refusal) => format!("{refusal:?}"),
     }
+}
+
+/// The name of a refusal, with a word if references were accepted before it.
+fn refused_name<T>(answer: &Result<T, Refusal>, inside: bool) -> String {
+    let word = if inside { " inside" } else { "" };
+    format!("{}{word}", name(answer))
 }
 
 /// Whether a call returned what it must, in every field.
@@ -171,6 +204,27 @@ pub fn check_refer(
     driver.compare(tracker)
 }
 
+pub fn check_refer_span(
+    model: &Model,
+    tracker: &mut Tracker,
+    driver: &mut Driver,
+    (offset, length): (u64, u32),
+    tally: &mut Tally,
+) -> Result<(), String> {
+    let before = tracker.record.references;
+    let expected = model.refer_span(tracker, offset, length);
+    let given = driver.refer_span(offset, length);
+    let answer = match expected {
+        Ok(()) if length == 0 => "length 0".to_string(),
+        Ok(()) => name(&expected),
+        Err(_) => refused_name(&expected, tracker.record.references != before),
+    };
+    tally.count("refer_span", &answer);
+    let case = |error: String| format!("{error}; {length} bytes at {offset}");
+    same(given, number_of(&expected)).map_err(case)?;
+    driver.compare(tracker).map_err(case)
+}
+
 pub fn check_point(
     model: &Model,
     tracker: &mut Tracker,
@@ -213,6 +267,7 @@ pub fn check_apply(
     bytes: &[u8],
     tally: &mut Tally,
 ) -> Result<(), String> {
+    let before = tracker.record.references;
     let expected = model.apply_first(tracker, bytes);
     let lent = lent_bytes(bytes);
     let given = driver.apply(&lent);
@@ -220,7 +275,7 @@ pub fn check_apply(
         Ok(_) if bytes[0] == 2 && bytes[9..13] == [0; 4] => "length 0".to_string(),
         Ok(_) => format!("kind {}", bytes[0]),
         Err(Refusal::Short) if bytes.is_empty() => "empty".to_string(),
-        Err(_) => name(&expected),
+        Err(_) => refused_name(&expected, tracker.record.references != before),
     };
     tally.count("apply", &answer);
     let case = |error: String| format!("{error}; bytes {bytes:?}");
@@ -256,7 +311,7 @@ fn feed_name(fed: &Fed, bytes: &[u8]) -> String {
         Err(Refusal::Words) if bytes.is_empty() => return "Words, empty".to_string(),
         Err(Refusal::Words) => return "Words".to_string(),
         Ok(true) => "incomplete".to_string(),
-        Err(_) => name(&fed.ending),
+        Err(_) => refused_name(&fed.ending, fed.inside),
     };
     let place = if fed.taken == 0 { "at once" } else { "later" };
     format!("{ending} {place}")
@@ -268,7 +323,7 @@ fn one_call(model: &Model, random: &mut Random, tally: &mut Tally) -> Result<(),
     let mut driver = Driver::holding(&tracker);
     let record = tracker.record;
     tally.note("words lent", &driver.record.inside().len().to_string());
-    match random.below(12) {
+    match random.below(14) {
         0 => {
             let given = given_settings(random);
             check_setup(model, &mut tracker, &mut driver, given, tally)
@@ -292,6 +347,10 @@ fn one_call(model: &Model, random: &mut Random, tally: &mut Tally) -> Result<(),
         8 | 9 => {
             let bytes = some_trace(random, &tracker, 5);
             check_feed(model, &mut tracker, &mut driver, &bytes, tally).map(|_| ())
+        }
+        10 | 11 => {
+            let span = some_span(random, &tracker);
+            check_refer_span(model, &mut tracker, &mut driver, span, tally)
         }
         _ => {
             let location = some_reference(random, &tracker);

@@ -1,8 +1,9 @@
-//! The twelve cases of document 01's bench table, run on the program or the library. The expected answers are the document's own.
+//! The twelve cases of document 01's bench table, run on the program or the library, whose expected answers are the document's own, and
+//! cases of I/O that spans blocks, computed by hand.
 
 use crate::driver::{self, lent_bytes, Driver};
 use crate::interface::{CAnswer, CEvent, VERSION};
-use crate::model::{Event, Settings, Shape, Tracker, P};
+use crate::model::{Event, Model, Settings, Shape, Tracker, MOST_REFERENCES, P};
 use crate::program::printed;
 use crate::published;
 use crate::random::Random;
@@ -179,6 +180,73 @@ fn l() -> Result<(), String> {
     is("read", driver::read(&lent_bytes(&bytes)).refusal, 7)
 }
 
+/// Two reads of 64 KiB: the second finds each of the 16 blocks behind the 15 others.
+fn same_read_twice() -> Result<(), String> {
+    let mut bytes = Event::Setup(16, P as u32, 15, 2, 0).bytes();
+    bytes.extend(Event::Span(4096 * 100, 65_536).bytes().repeat(2));
+    let expected = "curve refs 32 sampled 32 threshold 16777216 live 16\n\
+        0 8192 8192\n15 8192 8192\n30 4096 8192\nend\n";
+    same(&printed(&bytes)?, expected)
+}
+
+/// Blocks 0 to 3, rising: then block 3 is found at 0, block 1 at 2, and block 2 at 2.
+fn rising() -> Result<(), String> {
+    let mut bytes = Event::Setup(4, P as u32, 1, 4, 0).bytes();
+    bytes.extend(Event::Span(4095, 8194).bytes());
+    for (offset, length) in [(4096 * 3 + 7, 1), (4096 + 4095, 2), (0, 0)] {
+        bytes.extend(Event::Span(offset, length).bytes());
+    }
+    let expected = "curve refs 7 sampled 7 threshold 16777216 live 4\n\
+        0 1792 1792\n1 1536 1792\n2 1536 1792\n3 1024 1792\n4 1024 1792\nend\n";
+    same(&printed(&bytes)?, expected)
+}
+
+/// A read of the last byte of all is a reference to block 2^52 - 1, whose hash of kind 0 is 2^24 - 1; one of a byte more is refused,
+/// where its event begins.
+fn last_byte() -> Result<(), String> {
+    let mut bytes = Event::Setup(1, P as u32, 1, 1, 0).bytes();
+    bytes.extend(Event::Span(u64::MAX, 1).bytes());
+    let expected = "curve refs 1 sampled 1 threshold 16777216 live 1\n\
+        0 256 256\n1 256 256\nend\n";
+    same(&printed(&bytes)?, expected)?;
+    bytes.extend(Event::Location((1 << 52) - 1).bytes());
+    let expected = "curve refs 2 sampled 2 threshold 16777216 live 1\n\
+        0 512 512\n1 256 512\nend\n";
+    same(&printed(&bytes)?, expected)?;
+    bytes.extend(Event::Span(u64::MAX, 2).bytes());
+    same(&printed(&bytes)?, "refused 10 at 40\n")
+}
+
+/// With 2 references left, an I/O of 3 blocks is refused 4 after 2.
+fn full_inside() -> Result<(), String> {
+    let mut tracker = Tracker::blank(4, 6, 6);
+    let setup = Model::right().setup(settings(4, P, 1, 4, 0), &mut tracker);
+    setup.map_err(|refusal| format!("{refusal:?}"))?;
+    tracker.record.references = MOST_REFERENCES - 2;
+    let mut driver = Driver::holding(&tracker);
+    is("refusal", driver.refer_span(5 * 4096, 3 * 4096), 4)?;
+    is("references", driver.word(7), MOST_REFERENCES)?;
+    is("sampled", driver.word(8), 2)?;
+    is("live", driver.word(6), 2)?;
+    is("locations", driver.locations.inside(), &[6, 5, 0, 0][..])?;
+    is("counts", driver.counts.inside(), &[0, 0, 0, 0, 0, 512][..])
+}
+
+/// Block 7 was referred to before and bucket 2 is torn: blocks 5 and 6 are counted, and 7, found behind them, is refused 3.
+fn torn_inside() -> Result<(), String> {
+    let mut tracker = Tracker::blank(4, 6, 6);
+    let setup = Model::right().setup(settings(4, P, 1, 4, 0), &mut tracker);
+    setup.map_err(|refusal| format!("{refusal:?}"))?;
+    tracker.thresholds[2] = 0;
+    let mut driver = Driver::holding(&tracker);
+    refer_all(&mut driver, &[7])?;
+    is("refusal", driver.refer_span(5 * 4096 + 9, 4 * 4096), 3)?;
+    is("references", driver.word(7), 3)?;
+    is("sampled", driver.word(8), 3)?;
+    is("locations", driver.locations.inside(), &[6, 5, 7, 0][..])?;
+    is("counts", driver.counts.inside(), &[0, 0, 0, 0, 0, 768][..])
+}
+
 /// The library's threshold after references to L and to 0, with S 1, T0 P and hash kind 1, is the published hash of L.
 pub fn published_hash(seed: u64, locations: u64) -> Result<u64, String> {
     let mut random = Random::new(seed);
@@ -209,25 +277,38 @@ pub fn version() -> Result<u64, String> {
     Ok(VERSION)
 }
 
-type Case = (char, fn() -> Result<(), String>);
+type Case = (&'static str, fn() -> Result<(), String>);
 
-pub fn bench() -> Result<usize, String> {
-    let cases: [Case; 12] = [
-        ('a', a),
-        ('b', b),
-        ('c', c),
-        ('d', d),
-        ('e', e),
-        ('f', f),
-        ('g', g),
-        ('h', h),
-        ('i', i),
-        ('j', j),
-        ('k', k),
-        ('l', l),
-    ];
+fn run(cases: &[Case]) -> Result<usize, String> {
     for (name, case) in cases {
         case().map_err(|error| format!("case {name}: {error}"))?;
     }
     Ok(cases.len())
+}
+
+pub fn bench() -> Result<usize, String> {
+    run(&[
+        ("a", a),
+        ("b", b),
+        ("c", c),
+        ("d", d),
+        ("e", e),
+        ("f", f),
+        ("g", g),
+        ("h", h),
+        ("i", i),
+        ("j", j),
+        ("k", k),
+        ("l", l),
+    ])
+}
+
+pub fn spans() -> Result<usize, String> {
+    run(&[
+        ("same read twice", same_read_twice),
+        ("rising", rising),
+        ("last byte", last_byte),
+        ("full inside", full_inside),
+        ("torn inside", torn_inside),
+    ])
 }

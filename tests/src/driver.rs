@@ -170,6 +170,23 @@ impl Driver {
         }
     }
 
+    pub fn refer_span(&mut self, offset: u64, length: u32) -> u64 {
+        unsafe {
+            rockgingham_refer_span(
+                self.record.pointer(),
+                self.record.length(),
+                offset,
+                length,
+                self.locations.pointer(),
+                self.locations.length(),
+                self.counts.pointer(),
+                self.counts.length(),
+                self.thresholds.pointer(),
+                self.thresholds.length(),
+            )
+        }
+    }
+
     pub fn point(&self, believed: Shape, number: u64) -> CPoint {
         unsafe {
             rockgingham_point(

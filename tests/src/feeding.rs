@@ -5,6 +5,7 @@ use crate::calls::{check_feed, same};
 use crate::driver::{self, lent_bytes, Driver};
 use crate::events::some_trace;
 use crate::interface::CFed;
+use crate::lru;
 use crate::model::*;
 use crate::random::Random;
 use crate::tally::Tally;
@@ -21,13 +22,21 @@ pub const WANTED: &[(&str, &[&str])] = &[(
         "Words",
         "Words, empty",
         "Kind later",
+        "Overrun later",
         "Settings later",
         "TornRecord later",
         "Tables later",
         "Full later",
         "TornBucket later",
+        "Full inside at once",
+        "Full inside later",
+        "TornBucket inside at once",
+        "TornBucket inside later",
     ],
 )];
+
+/// The word of a record that holds its references.
+pub const REFERENCES: usize = 7;
 
 /// A tracker, a trace, and what feeding it at once told and left.
 struct Trace {
@@ -69,10 +78,23 @@ fn in_pieces(driver: &mut Driver, bytes: &[u8], random: &mut Random) -> Result<C
     }
 }
 
-/// Feeds only the bytes that were taken, of which all must be taken again, and tells how the whole trace ended.
-fn as_taken(driver: &mut Driver, bytes: &[u8], whole: CFed) -> Result<CFed, String> {
-    let fed = driver.feed(&lent_bytes(&bytes[..whole.taken as usize]));
+/// Feeds only the bytes that were taken, of which all must be taken again, then makes the references of a refused span one by one,
+/// until there are as many as the whole trace left. Tells how the whole trace ended.
+fn as_taken(
+    driver: &mut Driver,
+    bytes: &[u8],
+    whole: CFed,
+    references: u64,
+) -> Result<CFed, String> {
+    let (taken, rest) = bytes.split_at(whole.taken as usize);
+    let fed = driver.feed(&lent_bytes(taken));
     same((fed.refusal, fed.incomplete), (0, 0))?;
+    let made = references.checked_sub(driver.word(REFERENCES));
+    let made = made.ok_or("more references than the whole trace left")?;
+    let first = driver::read(&lent_bytes(rest)).offset / 4096;
+    for block in first..first + made {
+        same(driver.refer(block).refusal, 0)?;
+    }
     Ok(CFed {
         taken: fed.taken,
         ..whole
@@ -106,20 +128,28 @@ fn by_apply(driver: &mut Driver, bytes: &[u8]) -> Result<CFed, String> {
     })
 }
 
-/// Reads each event, and makes the call that the header says it stands for.
-fn by_calls(driver: &mut Driver, bytes: &[u8]) -> Result<CFed, String> {
+type Span = fn(&mut Driver, offset: u64, length: u32) -> u64;
+
+/// Reads each event, and makes the call that the header says it stands for, or `span` for a span.
+fn by_calls(driver: &mut Driver, bytes: &[u8], span: Span) -> Result<CFed, String> {
     one_by_one(bytes, |rest| {
         let event = driver::read(&lent_bytes(rest));
         let refusal = match event.kind {
             _ if event.refusal != 0 => event.refusal,
             1 => driver.refer(event.location).refusal,
-            2 if event.length == 0 => 0,
-            2 => driver.refer(event.offset / 4096).refusal,
+            2 => span(driver, event.offset, event.length as u32),
             3 => driver.restart(),
             _ => driver.setup_with(event.settings),
         };
         (refusal, event.taken)
     })
+}
+
+/// A reference to each block of an I/O, until one is refused.
+fn each_block(driver: &mut Driver, offset: u64, length: u32) -> u64 {
+    let refusals = lru::blocks(offset, length).into_iter();
+    let mut refusals = refusals.map(|block| driver.refer(block).refusal);
+    refusals.find(|refusal| *refusal != 0).unwrap_or(0)
 }
 
 /// Feeds a trace at once, then in the other ways to the same tracker. Event by event, too few words would be judged otherwise.
@@ -142,11 +172,17 @@ fn one_trace(model: &Model, random: &mut Random, tally: &mut Tally) -> Result<()
         in_pieces(driver, bytes, random)
     })?;
     if trace.before.words == WORDS {
+        let references = trace.after.record.references;
         trace.also("as far as taken", |driver, bytes| {
-            as_taken(driver, bytes, fed)
+            as_taken(driver, bytes, fed, references)
         })?;
         trace.also("by apply", by_apply)?;
-        trace.also("by calls", by_calls)?;
+        trace.also("by calls", |driver, bytes| {
+            by_calls(driver, bytes, Driver::refer_span)
+        })?;
+        trace.also("by references", |driver, bytes| {
+            by_calls(driver, bytes, each_block)
+        })?;
     }
     Ok(())
 }

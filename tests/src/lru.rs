@@ -36,6 +36,19 @@ impl Cache {
     }
 }
 
+/// The blocks of an I/O: that of its first byte, then the one that begins after each, as long as the I/O reaches it.
+pub fn blocks(offset: u64, length: u32) -> Vec<u64> {
+    let end = u128::from(offset) + u128::from(length);
+    let mut blocks = Vec::new();
+    let mut at = u128::from(offset);
+    while at < end {
+        let block = at / 4096;
+        blocks.push(block as u64);
+        at = (block + 1) * 4096;
+    }
+    blocks
+}
+
 /// How many references of the trace miss in a cache of this many blocks.
 pub fn misses(trace: &[u64], size: usize) -> u64 {
     let mut cache = Cache::new(size);

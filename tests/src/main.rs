@@ -17,6 +17,7 @@ mod program;
 mod published;
 mod random;
 mod runs;
+mod spans;
 mod states;
 mod tally;
 mod traces;
@@ -29,6 +30,7 @@ use tally::Tally;
 struct Sizes {
     damaged_calls: u64,
     fed_traces: u64,
+    refused_spans: u64,
     ordered_states: u64,
     ordered_inputs: u64,
     random_inputs: u64,
@@ -38,6 +40,7 @@ struct Sizes {
 const NATIVE: Sizes = Sizes {
     damaged_calls: 1_000_000,
     fed_traces: 50_000,
+    refused_spans: 20_000,
     ordered_states: 5000,
     ordered_inputs: 100,
     random_inputs: 1500,
@@ -48,6 +51,7 @@ const NATIVE: Sizes = Sizes {
 const EMULATED: Sizes = Sizes {
     damaged_calls: 250_000,
     fed_traces: 10_000,
+    refused_spans: 4_000,
     ordered_states: 1000,
     ordered_inputs: 30,
     random_inputs: 500,
@@ -78,6 +82,24 @@ fn library(sizes: &Sizes, seed: u64) -> Result<(), String> {
     if lowerings < 1000 {
         return Err("the clean runs lowered the threshold too seldom".to_string());
     }
+    Ok(())
+}
+
+/// I/O that spans blocks.
+fn spans(sizes: &Sizes, seed: u64) -> Result<(), String> {
+    let model = Model::right();
+    let mut tally = Tally::default();
+    let tried = spans::lengths(&model, true, &mut tally)?;
+    println!("spans: {tried} lengths and places, from none to 2^20 + 1 blocks, up to the last byte and past it, agree");
+    let mut tally = Tally::default();
+    spans::refused(&model, seed, sizes.refused_spans, &mut tally)?;
+    println!(
+        "spans: {} calls that are refused in the middle agree, also in pieces",
+        tally.calls
+    );
+    tally.require(spans::WANTED, 1)?;
+    let cases = cases::spans()?;
+    println!("spans: {cases} cases by hand agree");
     Ok(())
 }
 
@@ -142,6 +164,11 @@ fn noticed_by(model: &Model, seed: u64) -> Vec<&'static str> {
         ),
         ("feeding", feeding::traces(model, seed, 3_000, &mut tally)),
         (
+            "spans",
+            spans::lengths(model, false, &mut tally)
+                .and_then(|_| spans::refused(model, seed, 500, &mut tally)),
+        ),
+        (
             "clean runs",
             runs::clean(model, seed, true, &mut tally).map(|_| ()),
         ),
@@ -192,6 +219,7 @@ fn all(seed: u64) -> Result<(), String> {
         }
     };
     library(&sizes, seed)?;
+    spans(&sizes, seed)?;
     orders(&sizes, seed)?;
     program(&sizes, seed)?;
     wrong_models(seed)

@@ -1,5 +1,5 @@
-//! A naive model of document 01 in plain Rust, written from its text alone, and from the header's for a record that is lent as words
-//! and for events that are applied and fed. It shares no code and no data structure with the proved crates: numbers are wide, lists
+//! A naive model of document 01 in plain Rust, written from its text alone, from document 02's for I/O that spans blocks, and from
+//! the header's for a record that is lent as words and for events that are applied and fed. It shares no code and no data structure with the proved crates: numbers are wide, lists
 //! are rebuilt at each step, and nothing is kept that the text does not name.
 //!
 //! A model may contain one deliberate error (`Wrong`). The tests must notice each.
@@ -43,7 +43,6 @@ pub enum Wrong {
     LocationsCleared,
     RestartJudgesNothing,
     SpanOfNothingCounts,
-    SpanCountsEachBlock,
     SetupRefusedClears,
     RefusalAtNextEvent,
     BucketsBeforeStale,
@@ -90,9 +89,28 @@ pub enum Wrong {
     FeedUndoes,
     FeedRefusesIncomplete,
     FeedNeverIncomplete,
+    // I/O that spans blocks
+    FirstBlockOnly,
+    LastBlockMissed,
+    OneBlockMore,
+    BlocksFalling,
+    LengthNotReduced,
+    OverrunLetThrough,
+    OverrunAfterReference,
+    LastByteOverruns,
+    NothingOverruns,
+    RefusedReferenceCounted,
+    AcceptedPartTakenBack,
+    AcceptedPartUnrecorded,
+    RefusedSpanGoesOn,
+    OverrunBeforeShort,
+    OverrunBeforeKind,
+    WordsBeforeOverrun,
+    SpanRecordBeforeWords,
+    RoomBeforeOverrun,
 }
 
-pub const ALL_WRONG: [Wrong; 70] = [
+pub const ALL_WRONG: [Wrong; 87] = [
     Wrong::PlaceFromOne,
     Wrong::OneEntryRemoved,
     Wrong::NotAboveThreshold,
@@ -121,7 +139,6 @@ pub const ALL_WRONG: [Wrong; 70] = [
     Wrong::LocationsCleared,
     Wrong::RestartJudgesNothing,
     Wrong::SpanOfNothingCounts,
-    Wrong::SpanCountsEachBlock,
     Wrong::SetupRefusedClears,
     Wrong::RefusalAtNextEvent,
     Wrong::BucketsBeforeStale,
@@ -163,6 +180,24 @@ pub const ALL_WRONG: [Wrong; 70] = [
     Wrong::FeedUndoes,
     Wrong::FeedRefusesIncomplete,
     Wrong::FeedNeverIncomplete,
+    Wrong::FirstBlockOnly,
+    Wrong::LastBlockMissed,
+    Wrong::OneBlockMore,
+    Wrong::BlocksFalling,
+    Wrong::LengthNotReduced,
+    Wrong::OverrunLetThrough,
+    Wrong::OverrunAfterReference,
+    Wrong::LastByteOverruns,
+    Wrong::NothingOverruns,
+    Wrong::RefusedReferenceCounted,
+    Wrong::AcceptedPartTakenBack,
+    Wrong::AcceptedPartUnrecorded,
+    Wrong::RefusedSpanGoesOn,
+    Wrong::OverrunBeforeShort,
+    Wrong::OverrunBeforeKind,
+    Wrong::WordsBeforeOverrun,
+    Wrong::SpanRecordBeforeWords,
+    Wrong::RoomBeforeOverrun,
 ];
 
 /// For each pair of neighbours among a call's refusals, the wrong model that swaps them.
@@ -193,7 +228,13 @@ pub const PLOT_SWAPS: [Wrong; 6] = [
     Wrong::PlotBucketsBeforePoint,
     Wrong::PlotEmptyBeforeBuckets,
 ];
-pub const READ_SWAPS: [Wrong; 2] = [Wrong::KindBeforeNoBytes, Wrong::ShortBeforeKind];
+pub const SPAN_SWAPS: [Wrong; 2] = [Wrong::WordsBeforeOverrun, Wrong::SpanRecordBeforeWords];
+pub const READ_SWAPS: [Wrong; 3] = [
+    Wrong::KindBeforeNoBytes,
+    Wrong::ShortBeforeKind,
+    Wrong::OverrunBeforeShort,
+];
+pub const WRITE_SWAPS: [Wrong; 1] = [Wrong::RoomBeforeOverrun];
 pub const EVENT_SWAPS: [Wrong; 2] = [Wrong::ReadingBeforeWords, Wrong::RecordBeforeReading];
 
 /// Why a call is refused. 2 has a variant of its own for the record's words, and Torn has three, so that the tests can count each
@@ -212,6 +253,7 @@ pub enum Refusal {
     Short,
     Kind,
     Empty,
+    Overrun,
 }
 
 impl Refusal {
@@ -226,6 +268,7 @@ impl Refusal {
             Refusal::Short => 7,
             Refusal::Kind => 8,
             Refusal::Empty => 9,
+            Refusal::Overrun => 10,
         }
     }
 }
@@ -291,11 +334,13 @@ pub enum Event {
     Setup(u32, u32, u32, u32, u8),
 }
 
-/// What feeding did: how many bytes it took, and whether the rest is the beginning of an event, or why an event was refused.
+/// What feeding did: how many bytes it took, and whether the rest is the beginning of an event, or why an event was refused. `inside`
+/// says whether references of the refused event were accepted.
 #[derive(Clone, Copy, Debug, PartialEq, Eq)]
 pub struct Fed {
     pub taken: usize,
     pub ending: Result<bool, Refusal>,
+    pub inside: bool,
 }
 
 #[derive(Clone, Copy, Debug)]
@@ -718,6 +763,98 @@ impl Model {
         kept
     }
 
+    /// One I/O: 10 comes first, then too few words.
+    pub fn refer_span(
+        &self,
+        tracker: &mut Tracker,
+        offset: u64,
+        length: u32,
+    ) -> Result<(), Refusal> {
+        let torn = self.is(Wrong::SpanRecordBeforeWords) && tracker.record.torn();
+        self.judge(
+            [
+                &|| self.judge_overrun(offset, length),
+                &|| self.judge_words_first(tracker),
+                &|| refuse_if(torn, Refusal::TornRecord),
+            ],
+            &SPAN_SWAPS,
+        )?;
+        self.span(tracker, offset, length)
+    }
+
+    fn judge_overrun(&self, offset: u64, length: u32) -> Result<(), Refusal> {
+        let past = |bytes: u32| u128::from(offset) + u128::from(bytes) > u128::from(u64::MAX);
+        let refused = match self.wrong {
+            Some(Wrong::OverrunLetThrough | Wrong::OverrunAfterReference) => false,
+            Some(Wrong::LastByteOverruns) => past(length),
+            Some(Wrong::NothingOverruns) => past(length.wrapping_sub(1)),
+            _ => overruns(offset, length),
+        };
+        refuse_if(refused, Refusal::Overrun)
+    }
+
+    /// An I/O that 10 does not refuse.
+    fn span(&self, tracker: &mut Tracker, offset: u64, length: u32) -> Result<(), Refusal> {
+        let blocks = self.blocks(offset, length);
+        if self.is(Wrong::OverrunAfterReference) && overruns(offset, length) {
+            self.refer_each(tracker, &blocks[..1])?;
+            return Err(Refusal::Overrun);
+        }
+        self.refer_each(tracker, &blocks)
+    }
+
+    /// "One reference to each block from offset / 4,096 to (offset + length - 1) / 4,096, rising; length 0 still makes none."
+    fn blocks(&self, offset: u64, length: u32) -> Vec<u64> {
+        if length == 0 && !self.is(Wrong::SpanOfNothingCounts) {
+            return Vec::new();
+        }
+        let bytes = u128::from(length.max(1)) - u128::from(!self.is(Wrong::LengthNotReduced));
+        let first = offset / 4096;
+        let last = ((u128::from(offset) + bytes) / 4096) as u64;
+        let mut blocks: Vec<u64> = match self.wrong {
+            Some(Wrong::FirstBlockOnly) => vec![first],
+            Some(Wrong::LastBlockMissed) => (first..last).collect(),
+            Some(Wrong::OneBlockMore) => (first..=last + 1).collect(),
+            _ => (first..=last).collect(),
+        };
+        if self.is(Wrong::BlocksFalling) {
+            blocks.reverse();
+        }
+        blocks
+    }
+
+    /// "References accepted before a Full or Torn inside an event stay counted; the one refused changes nothing and ends the event."
+    fn refer_each(&self, tracker: &mut Tracker, blocks: &[u64]) -> Result<(), Refusal> {
+        let before = self.spoils_refused().then(|| tracker.clone());
+        let mut ending = Ok(());
+        for block in blocks {
+            let answer = self.refer(tracker, *block).map(|_| ());
+            ending = ending.and(answer);
+            if ending.is_err() && !self.is(Wrong::RefusedSpanGoesOn) {
+                break;
+            }
+        }
+        if let (Err(refusal), Some(before)) = (ending, before) {
+            self.spoil_refused(tracker, before, refusal);
+        }
+        ending
+    }
+
+    fn spoils_refused(&self) -> bool {
+        self.is(Wrong::RefusedReferenceCounted)
+            || self.is(Wrong::AcceptedPartTakenBack)
+            || self.is(Wrong::AcceptedPartUnrecorded)
+    }
+
+    fn spoil_refused(&self, tracker: &mut Tracker, before: Tracker, refusal: Refusal) {
+        match self.wrong {
+            Some(Wrong::AcceptedPartTakenBack) => *tracker = before,
+            Some(Wrong::AcceptedPartUnrecorded) => tracker.record = before.record,
+            _ if refusal == Refusal::TornRecord || refusal == Refusal::Tables => {}
+            _ => tracker.record.references += 1,
+        }
+    }
+
     pub fn point(
         &self,
         tracker: &mut Tracker,
@@ -912,6 +1049,17 @@ fn length_of(kind: u8) -> usize {
     }
 }
 
+/// 10: "when the length is not 0 and offset + length - 1 passes 2^64 - 1".
+fn overruns(offset: u64, length: u32) -> bool {
+    length != 0 && u128::from(offset) + u128::from(length) - 1 > u128::from(u64::MAX)
+}
+
+/// Offset and length of a span event, as far as its bytes are there.
+fn span_in(bytes: &[u8]) -> (u64, u32) {
+    let part = |from: usize, to: usize| &bytes[from.min(bytes.len())..to.min(bytes.len())];
+    (number(part(1, 9)), small(part(9, 13)))
+}
+
 /// Whether the bytes have a sample limit outside its range where a setup event has it.
 fn limit_too_large(bytes: &[u8]) -> bool {
     bytes.len() >= 5 && small(&bytes[1..5]) > 8192
@@ -927,11 +1075,19 @@ impl Model {
             _ => false,
         };
         refuse_if(settings_first && limit_too_large(bytes), Refusal::Settings)?;
+        let (offset, extent) = span_in(bytes);
+        if self.is(Wrong::OverrunBeforeKind) && kind > 4 {
+            self.judge_overrun(offset, extent)?;
+        }
         self.judge(
             [
                 &|| refuse_if(bytes.is_empty(), Refusal::Short),
                 &|| refuse_if(kind == 0 || kind > 4, Refusal::Kind),
                 &|| refuse_if(bytes.len() < length, Refusal::Short),
+                &|| match kind {
+                    2 => self.judge_overrun(offset, extent),
+                    _ => Ok(()),
+                },
             ],
             &READ_SWAPS,
         )?;
@@ -955,9 +1111,16 @@ impl Model {
     pub fn write(&self, event: Event, buffer: &mut [u8]) -> Result<usize, Refusal> {
         self.unless_all_refused(Refusal::Tables)?;
         let bytes = event.bytes();
-        if buffer.len() < bytes.len() {
-            return Err(Refusal::Tables);
-        }
+        self.judge(
+            [
+                &|| match event {
+                    Event::Span(offset, length) => self.judge_overrun(offset, length),
+                    _ => Ok(()),
+                },
+                &|| refuse_if(buffer.len() < bytes.len(), Refusal::Tables),
+            ],
+            &WRITE_SWAPS,
+        )?;
         for (place, byte) in bytes.iter().enumerate() {
             buffer[place] = *byte;
         }
@@ -967,15 +1130,7 @@ impl Model {
     pub fn apply(&self, tracker: &mut Tracker, event: Event) -> Result<(), Refusal> {
         match event {
             Event::Location(location) => self.refer(tracker, location).map(|_| ()),
-            Event::Span(_, 0) if !self.is(Wrong::SpanOfNothingCounts) => Ok(()),
-            Event::Span(offset, length) => {
-                let block = offset / 4096;
-                self.refer(tracker, block)?;
-                if self.is(Wrong::SpanCountsEachBlock) && length > 4096 {
-                    self.refer(tracker, block + 1)?;
-                }
-                Ok(())
-            }
+            Event::Span(offset, length) => self.span(tracker, offset, length),
             Event::Restart => self.restart(tracker),
             Event::Setup(limit, start, width, buckets, kind) => {
                 let given = Settings {
@@ -1031,6 +1186,7 @@ impl Model {
             Err(refusal) => Fed {
                 taken: 0,
                 ending: Err(refusal),
+                inside: false,
             },
         };
         if let (Err(_), Some(before)) = (fed.ending, before) {
@@ -1051,7 +1207,7 @@ impl Model {
     }
 
     fn feed_events(&self, tracker: &mut Tracker, bytes: &[u8]) -> Fed {
-        let mut taken = 0;
+        let (mut taken, mut inside) = (0, false);
         let ending = loop {
             if taken == bytes.len() {
                 break Ok(false);
@@ -1063,13 +1219,19 @@ impl Model {
                 }
                 Err(refusal) => break Err(refusal),
             };
+            let before = tracker.record.references;
             if let Err(refusal) = self.apply(tracker, event) {
                 taken += length * usize::from(self.is(Wrong::FeedCountsRefused));
+                inside = tracker.record.references != before;
                 break Err(refusal);
             }
             taken += length;
         };
-        Fed { taken, ending }
+        Fed {
+            taken,
+            ending,
+            inside,
+        }
     }
 
     /// What the curve program prints.

@@ -1,5 +1,5 @@
-//! The order of refusals. Document 01 lists the refusals of each call in order, and the header adds those for the words of a record; if
-//! several hold, the first is the answer. Each pair of neighbours is tried in states where both hold and none before them does. If each
+//! The order of refusals. Document 01 lists the refusals of each call in order, document 02 adds 10, and the header those for the words
+//! of a record; if several hold, the first is the answer. Each pair of neighbours is tried in states where both hold and none before them does. If each
 //! is answered before the next, the order is right.
 
 use crate::calls::{same, same_bytes};
@@ -148,6 +148,22 @@ const SHORT: Rule = Rule {
     make: cut_event,
 };
 
+/// 10: "when the length is not 0 and offset + length - 1 passes 2^64 - 1".
+const OVERRUN: Rule = Rule {
+    number: 10,
+    named: &[Refusal::Overrun],
+    holds: |state| overrun(&state.bytes),
+    make: put_overrun,
+};
+
+/// 2: too few bytes for the event.
+const ROOM: Rule = Rule {
+    number: 2,
+    named: &[Refusal::Tables],
+    holds: |state| state.room < length_of(state.bytes[0]),
+    make: |random, state| state.room = random.below(length_of(state.bytes[0]) as u64) as usize,
+};
+
 /// 7: no bytes at all.
 const NO_BYTES: Rule = Rule {
     number: 7,
@@ -186,8 +202,8 @@ const PROGRAM_TABLES: Rule = Rule {
     make: outgrow_program,
 };
 
-// The orders, in document 01's words, and in the header's: too few words are refused "2 before all else", by setup "2 after 1".
-// Writing has no order: "Writing an event into too few bytes answers 2."
+// The orders, in the documents' words, and in the header's: too few words are refused "2 before all else", by setup "only after 1", by
+// an I/O "only after 10".
 
 /// "Setup: 1, 2."
 const SETUP: &[Rule] = &[SETTINGS, SETUP_TABLES];
@@ -198,6 +214,9 @@ const RESTART: &[Rule] = &[FEW_WORDS, TORN_RECORD, TABLES];
 
 /// "A reference: 3 for the record, 2, 4, then 3 for the single bucket it would record in."
 const REFER: &[Rule] = &[FEW_WORDS, TORN_RECORD, TABLES, FULL, TORN_BUCKET];
+
+/// 10 "before any of its references".
+const REFER_SPAN: &[Rule] = &[OVERRUN, FEW_WORDS, TORN_RECORD, TABLES, FULL, TORN_BUCKET];
 
 /// "A point: 3 for the record, 2, 5, 6, 3 for the buckets, 9."
 const POINT: &[Rule] = &[
@@ -213,6 +232,11 @@ const POINT: &[Rule] = &[
 /// "Reading: 7 if empty, 8, 7." The first two never hold together: without bytes there is no kind byte. `few_bytes` tries the first.
 const READ: &[Rule] = &[KIND, SHORT];
 
+/// "In reading it comes after a complete body [..], in writing before 2." What is there of an incomplete body can be enough to see that
+/// the span will overrun.
+const READ_SPAN: &[Rule] = &[KIND, SHORT, OVERRUN];
+const WRITE_SPAN: &[Rule] = &[OVERRUN, ROOM];
+
 // Applying: "2 for the record's words; those of rockgingham_read; those of the call that the event stands for."
 const APPLY_NOTHING: &[Rule] = &[FEW_WORDS, NO_BYTES];
 const APPLY_REFERENCE: &[Rule] = &[
@@ -224,17 +248,39 @@ const APPLY_REFERENCE: &[Rule] = &[
     FULL,
     TORN_BUCKET,
 ];
+const APPLY_SPAN: &[Rule] = &[
+    FEW_WORDS,
+    KIND,
+    SHORT,
+    OVERRUN,
+    TORN_RECORD,
+    TABLES,
+    FULL,
+    TORN_BUCKET,
+];
 const APPLY_RESTART: &[Rule] = &[FEW_WORDS, KIND, TORN_RECORD, TABLES];
 const APPLY_SETUP: &[Rule] = &[FEW_WORDS, KIND, SHORT, EVENT_SETTINGS, EVENT_TABLES];
 
-// Feeding: "2 for the record's words [..]; 8; those of the call that an event stands for." An incomplete event is not refused.
+// Feeding: "2 for the record's words [..]; 8; 10; those of the call that an event stands for." An incomplete event is not refused.
 const FEED_REFERENCE: &[Rule] = &[FEW_WORDS, KIND, TORN_RECORD, TABLES, FULL, TORN_BUCKET];
+const FEED_SPAN: &[Rule] = &[
+    FEW_WORDS,
+    KIND,
+    OVERRUN,
+    TORN_RECORD,
+    TABLES,
+    FULL,
+    TORN_BUCKET,
+];
 const FEED_RESTART: &[Rule] = &[FEW_WORDS, KIND, TORN_RECORD, TABLES];
 const FEED_SETUP: &[Rule] = &[FEW_WORDS, KIND, EVENT_SETTINGS, EVENT_TABLES];
 
 /// A setup event in the program: "A kind-4 event is read without judging its settings; setup does that." No other event can be refused
 /// by its call there: the record is never torn, and is full only after 2^32 - 1 references.
 const EVENT: &[Rule] = &[KIND, SHORT, EVENT_SETTINGS, PROGRAM_TABLES];
+
+/// A span in the program is refused only in reading.
+const EVENT_SPAN: &[Rule] = READ_SPAN;
 
 /// A call: its refusals in order; for each pair of neighbours, the wrong model that swaps them; a state that is often accepted; and a
 /// check that the library or the program gives this refusal, or none, as the model does.
@@ -285,6 +331,28 @@ const LIBRARY: &[Call] = &[
                 (answer.err(), driver::answered(&answer))
             };
             check_library(state, rule, modelled, |driver| driver.refer(state.location))
+        },
+    },
+    Call {
+        name: "refer_span",
+        rules: REFER_SPAN,
+        swaps: &[
+            Wrong::WordsBeforeOverrun,
+            Wrong::SpanRecordBeforeWords,
+            Wrong::ReferTablesBeforeRecord,
+            Wrong::FullBeforeTables,
+            Wrong::BucketBeforeFull,
+        ],
+        state: some_span_event,
+        check: |model, state, rule| {
+            let (offset, length) = span_in(&state.bytes);
+            let modelled = |tracker: &mut Tracker| {
+                let answer = model.refer_span(tracker, offset, length);
+                (answer.err(), number_of(&answer))
+            };
+            check_library(state, rule, modelled, |driver| {
+                driver.refer_span(offset, length)
+            })
         },
     },
     Call {
@@ -341,6 +409,21 @@ const LIBRARY: &[Call] = &[
         check: check_apply,
     },
     Call {
+        name: "apply a span",
+        rules: APPLY_SPAN,
+        swaps: &[
+            Wrong::ReadingBeforeWords,
+            Wrong::ShortBeforeKind,
+            Wrong::OverrunBeforeShort,
+            Wrong::OverrunAfterReference,
+            Wrong::ReferTablesBeforeRecord,
+            Wrong::FullBeforeTables,
+            Wrong::BucketBeforeFull,
+        ],
+        state: some_span_event,
+        check: check_apply,
+    },
+    Call {
         name: "apply a restart",
         rules: APPLY_RESTART,
         swaps: &[
@@ -377,6 +460,20 @@ const LIBRARY: &[Call] = &[
         check: check_feed,
     },
     Call {
+        name: "feed a span",
+        rules: FEED_SPAN,
+        swaps: &[
+            Wrong::ReadingBeforeWords,
+            Wrong::OverrunBeforeKind,
+            Wrong::OverrunAfterReference,
+            Wrong::ReferTablesBeforeRecord,
+            Wrong::FullBeforeTables,
+            Wrong::BucketBeforeFull,
+        ],
+        state: some_span_event,
+        check: check_feed,
+    },
+    Call {
         name: "feed a restart",
         rules: FEED_RESTART,
         swaps: &[
@@ -402,22 +499,45 @@ const LIBRARY: &[Call] = &[
         name: "read",
         rules: READ,
         swaps: &[Wrong::ShortBeforeKind],
-        state: some_state,
+        state: some_other_event,
         check: check_read,
+    },
+    Call {
+        name: "read a span",
+        rules: READ_SPAN,
+        swaps: &[Wrong::ShortBeforeKind, Wrong::OverrunBeforeShort],
+        state: some_span_event,
+        check: check_read,
+    },
+    Call {
+        name: "write a span",
+        rules: WRITE_SPAN,
+        swaps: &WRITE_SWAPS,
+        state: some_span_event,
+        check: check_write_span,
     },
 ];
 
-const PROGRAM: &[Call] = &[Call {
-    name: "program",
-    rules: EVENT,
-    swaps: &[
-        Wrong::ShortBeforeKind,
-        Wrong::SettingsBeforeShort,
-        Wrong::TablesBeforeSettings,
-    ],
-    state: some_program_event,
-    check: check_program,
-}];
+const PROGRAM: &[Call] = &[
+    Call {
+        name: "program",
+        rules: EVENT,
+        swaps: &[
+            Wrong::ShortBeforeKind,
+            Wrong::SettingsBeforeShort,
+            Wrong::TablesBeforeSettings,
+        ],
+        state: some_program_event,
+        check: check_program,
+    },
+    Call {
+        name: "program, a span",
+        rules: EVENT_SPAN,
+        swaps: &[Wrong::ShortBeforeKind, Wrong::OverrunBeforeShort],
+        state: some_span_event,
+        check: check_program,
+    },
+];
 
 /// Which of the refusals holds first.
 fn first_held(rules: &[Rule], state: &State) -> Option<usize> {
@@ -525,6 +645,18 @@ fn check_read(model: &Model, state: &State, rule: Option<&Rule>) -> Result<(), S
     check_refusal(answer.err(), rule)
 }
 
+/// The span of the bytes, written into a buffer.
+fn check_write_span(model: &Model, state: &State, rule: Option<&Rule>) -> Result<(), String> {
+    let (offset, length) = span_in(&state.bytes);
+    let mut buffer = vec![0x77; state.room];
+    let mut lent = lent_bytes(&buffer);
+    let answer = model.write(Event::Span(offset, length), &mut buffer);
+    let given = driver::write(Event::Span(offset, length), &mut lent);
+    same(given, driver::written(&answer))?;
+    same_bytes(&lent, &buffer)?;
+    check_refusal(answer.err(), rule)
+}
+
 /// The program, given the event after a few references.
 fn check_program(model: &Model, state: &State, rule: Option<&Rule>) -> Result<(), String> {
     let mut input = Vec::new();
@@ -628,6 +760,16 @@ pub const WANTED: &[(&str, &[&str])] = &[
             "Full-TornBucket",
         ],
     ),
+    (
+        "refer_span",
+        &[
+            "Overrun-Words",
+            "Words-TornRecord",
+            "TornRecord-Tables",
+            "Tables-Full",
+            "Full-TornBucket",
+        ],
+    ),
     ("point", WANTED_OF_POINT),
     ("plot", WANTED_OF_POINT),
     ("apply nothing", &["Words-Short"]),
@@ -637,6 +779,18 @@ pub const WANTED: &[(&str, &[&str])] = &[
             "Words-Kind",
             "Kind-Short",
             "Short-TornRecord",
+            "TornRecord-Tables",
+            "Tables-Full",
+            "Full-TornBucket",
+        ],
+    ),
+    (
+        "apply a span",
+        &[
+            "Words-Kind",
+            "Kind-Short",
+            "Short-Overrun",
+            "Overrun-TornRecord",
             "TornRecord-Tables",
             "Tables-Full",
             "Full-TornBucket",
@@ -662,12 +816,25 @@ pub const WANTED: &[(&str, &[&str])] = &[
             "Full-TornBucket",
         ],
     ),
+    (
+        "feed a span",
+        &[
+            "Words-Kind",
+            "Kind-Overrun",
+            "Overrun-TornRecord",
+            "TornRecord-Tables",
+            "Tables-Full",
+            "Full-TornBucket",
+        ],
+    ),
     ("feed a restart", WANTED_OF_RESTART),
     (
         "feed a setup",
         &["Words-Kind", "Kind-Settings", "Settings-Tables"],
     ),
     ("read", &["Kind-Short"]),
+    ("read a span", &["Kind-Short", "Short-Overrun"]),
+    ("write a span", &["Overrun-Tables"]),
 ];
 
 const WANTED_OF_POINT: &[&str] = &[
@@ -681,10 +848,13 @@ const WANTED_OF_POINT: &[&str] = &[
 
 const WANTED_OF_RESTART: &[&str] = &["Words-Kind", "Kind-TornRecord", "TornRecord-Tables"];
 
-pub const WANTED_OF_PROGRAM: &[(&str, &[&str])] = &[(
-    "program",
-    &["Kind-Short", "Short-Settings", "Settings-Tables"],
-)];
+pub const WANTED_OF_PROGRAM: &[(&str, &[&str])] = &[
+    (
+        "program",
+        &["Kind-Short", "Short-Settings", "Settings-Tables"],
+    ),
+    ("program, a span", &["Kind-Short", "Short-Overrun"]),
+];
 
 pub fn pairs(wanted: &[(&str, &[&str])]) -> usize {
     wanted.iter().map(|(_, pairs)| pairs.len()).sum()

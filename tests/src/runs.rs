@@ -62,7 +62,7 @@ fn next_location(random: &mut Random, recent: &[u64], locations: u64) -> u64 {
     }
 }
 
-/// A reference: by refer, or by an event that is applied or fed.
+/// A reference, or those of an I/O that begins there: by a call, or by an event that is applied or fed.
 fn refer_somehow(
     model: &Model,
     random: &mut Random,
@@ -75,9 +75,12 @@ fn refer_somehow(
         0 => Event::Location(location),
         _ => span_to(random, location),
     };
-    match random.below(4) {
-        0 => check_apply(model, tracker, driver, &event.bytes(), tally),
-        1 => check_feed(model, tracker, driver, &event.bytes(), tally).map(|_| ()),
+    match (random.below(4), event) {
+        (0, _) => check_apply(model, tracker, driver, &event.bytes(), tally),
+        (1, _) => check_feed(model, tracker, driver, &event.bytes(), tally).map(|_| ()),
+        (2, Event::Span(offset, length)) => {
+            check_refer_span(model, tracker, driver, (offset, length), tally)
+        }
         _ => check_refer(model, tracker, driver, location, tally),
     }
 }

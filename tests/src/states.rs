@@ -17,6 +17,8 @@ pub struct State {
     pub bytes: Vec<u8>,
     /// How many spans of length 0 are fed before the bytes.
     pub before: usize,
+    /// How many bytes there are to write an event into.
+    pub room: usize,
 }
 
 // Whether a refusal holds, from document 01's words alone.
@@ -134,6 +136,22 @@ pub fn settings_in(bytes: &[u8]) -> Settings {
         buckets: at(13),
         kind: bytes.get(17).map_or(0, |kind| u64::from(*kind)),
     }
+}
+
+/// Offset and length of a span event, as far as its bytes are there.
+pub fn span_in(bytes: &[u8]) -> (u64, u32) {
+    let mut body = [0; 12];
+    for (place, byte) in bytes.iter().skip(1).take(12).enumerate() {
+        body[place] = *byte;
+    }
+    let word = |at: usize| u32::from_le_bytes([body[at], body[at + 1], body[at + 2], body[at + 3]]);
+    (u64::from(word(0)) | u64::from(word(4)) << 32, word(8))
+}
+
+/// Whether a span has a byte past the last one, which is number 2^64 - 1.
+pub fn overrun(bytes: &[u8]) -> bool {
+    let (offset, length) = span_in(bytes);
+    u64::from(length) > 1 && u64::MAX - offset < u64::from(length) - 1
 }
 
 // Changes that make a refusal hold. Each is made in a state where no refusal holds that comes before it in an order.
@@ -272,6 +290,23 @@ pub fn believe_another(random: &mut Random, state: &mut State) {
     }
 }
 
+/// Moves a span so far that its last byte is past 2^64 - 1, often by one. The lowest byte of the length is at least 2 then, so that an
+/// event that is cut behind it may still overrun.
+pub fn put_overrun(random: &mut Random, state: &mut State) {
+    let (_, length) = span_in(&state.bytes);
+    let length = if length & 0xff < 2 {
+        length | 2
+    } else {
+        length
+    };
+    let past = match random.below(2) {
+        0 => 1,
+        _ => random.between(1, u64::from(length) - 1),
+    };
+    let offset = u64::MAX - u64::from(length) + 1 + past;
+    state.bytes[1..13].copy_from_slice(&Event::Span(offset, length).bytes()[1..]);
+}
+
 /// Cuts the first event, often to its kind byte. An event of a single byte is replaced by a longer one first.
 pub fn cut_event(random: &mut Random, state: &mut State) {
     if state.bytes[0] == 3 {
@@ -328,6 +363,7 @@ pub fn some_state(random: &mut Random) -> State {
         number: random.between(0, settings.buckets),
         bytes,
         before: random.below(3) as usize,
+        room: random.between(18, 24) as usize,
         tracker,
     }
 }
@@ -335,10 +371,29 @@ pub fn some_state(random: &mut Random) -> State {
 /// An event that refers to the state's location.
 pub fn some_reference_event(random: &mut Random) -> State {
     let mut state = some_state(random);
-    let location = state.location;
-    let event = match random.below(2) {
-        0 if location < 1 << 52 => span_to(random, location),
-        _ => Event::Location(location),
+    state.bytes = Event::Location(state.location).bytes();
+    state
+}
+
+/// An event that is no span.
+pub fn some_other_event(random: &mut Random) -> State {
+    let mut state = some_state(random);
+    while state.bytes[0] == 2 {
+        state.bytes = some_event(random).bytes();
+    }
+    state
+}
+
+/// A span whose first block is the state's location. Of a record that has almost all references it is the only one, so that a span
+/// whose first reference is accepted is accepted.
+pub fn some_span_event(random: &mut Random) -> State {
+    let mut state = some_state(random);
+    state.location %= 1 << 50;
+    let event = match span_to(random, state.location) {
+        Event::Span(offset, length) if state.tracker.record.references > MOST_REFERENCES - 40 => {
+            Event::Span(offset, length.min(4096 - (offset % 4096) as u32))
+        }
+        event => event,
     };
     state.bytes = event.bytes();
     state

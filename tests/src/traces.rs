@@ -1,6 +1,6 @@
 //! The curve program, compared with the model, the LRU simulator and the published hash.
 
-use crate::events::some_event;
+use crate::events::{some_length, some_short_event, span_at_the_end};
 use crate::lru;
 use crate::model::*;
 use crate::program::{printed, printed_in_pieces};
@@ -65,6 +65,11 @@ fn some_setup(random: &mut Random) -> Event {
     Event::Setup(limit, start, width, buckets, kind as u8)
 }
 
+fn end_span(random: &mut Random) -> Event {
+    let length = some_length(random);
+    span_at_the_end(random, length)
+}
+
 /// An input that is often whole, sometimes cut, and sometimes followed by a random byte.
 fn some_input(random: &mut Random) -> Vec<u8> {
     let mut bytes = Vec::new();
@@ -72,8 +77,10 @@ fn some_input(random: &mut Random) -> Vec<u8> {
         let event = match random.below(60) {
             0 => Event::Restart,
             1 => some_setup(random),
-            2 if random.one_in(4) => some_event(random),
-            3..=14 => Event::Span(random.below(40) << 11, random.below(3) as u32 * 5000),
+            2 if random.one_in(4) => some_short_event(random),
+            3 if random.one_in(4) => end_span(random),
+            3..=12 => Event::Span(random.below(40) << 11, random.below(3) as u32 * 5000),
+            13..=14 => Event::Span(random.below(40) << 11, 65_536),
             15..=35 => Event::Location(random.below(20) + P * random.below(3)),
             _ => Event::Location(random.below(20)),
         };
@@ -100,6 +107,7 @@ pub const WANTED: &[(&str, &[&str])] = &[(
         "refused 2",
         "refused 7",
         "refused 8",
+        "refused 10",
     ],
 )];
 
@@ -135,9 +143,10 @@ fn long_input(random: &mut Random, length: usize) -> Vec<u8> {
             1 => random.below(60_000),
             _ => random.below(3_000_000),
         };
-        let event = match random.below(5) {
-            0 => Event::Span(location << 12 | random.below(4096), 512),
-            1 => Event::Span(location << 12, random.below(2) as u32 * 8192),
+        let event = match random.below(10) {
+            0 | 1 => Event::Span(location << 12 | random.below(4096), 512),
+            2 => Event::Span(location << 12, random.below(2) as u32 * 8192),
+            3 => Event::Span(location << 12 | random.below(4096), 65_536),
             _ => Event::Location(location),
         };
         bytes.extend(event.bytes());
@@ -188,9 +197,17 @@ fn pieces(model: &Model, random: &mut Random) -> Result<(), String> {
 /// Inputs that end near the edges of a program's buffers, followed by a refused event, an incomplete one, or nothing.
 fn edges(model: &Model, random: &mut Random) -> Result<(), String> {
     let refused = Event::Setup(8193, 0, 0, 0, 0).bytes();
-    let tails: [&[u8]; 4] = [&[], &[0], &refused, &refused[..17]];
+    let overrun = Event::Span(u64::MAX - 65_534, 65_536).bytes();
+    let tails: [&[u8]; 6] = [
+        &[],
+        &[0],
+        &refused,
+        &refused[..17],
+        &overrun,
+        &overrun[..12],
+    ];
     for edge in [4_096, 8_192, 65_536, 1 << 20] {
-        for (case, tail) in tails.iter().cycle().take(16).enumerate() {
+        for (case, tail) in tails.iter().cycle().take(18).enumerate() {
             let mut input = long_input(random, edge - 40 + 5 * case);
             input.extend_from_slice(tail);
             same(&printed(&input)?, &model.program(&input))
@@ -200,23 +217,25 @@ fn edges(model: &Model, random: &mut Random) -> Result<(), String> {
     Ok(())
 }
 
-/// A setup event, cut after every number of bytes.
+/// A setup event and a span past the last byte, cut after every number of bytes.
 fn cut_events(model: &Model) -> Result<(), String> {
-    for cut in 1..18 {
-        let event = Event::Setup(3, 5, 7, 9, 1).bytes();
-        let input = [Event::Location(9).bytes(), event[..cut].to_vec()].concat();
-        let expected = "refused 7 at 9\n";
-        same(&printed_in_pieces(&input, &[1])?, expected)
-            .map_err(|error| format!("cut after {cut} bytes: {error}"))?;
-        same(&model.program(&input), expected).map_err(|error| format!("model: {error}"))?;
+    let events = [Event::Setup(3, 5, 7, 9, 1), Event::Span(u64::MAX, u32::MAX)];
+    for event in events.map(Event::bytes) {
+        for cut in 1..event.len() {
+            let input = [Event::Location(9).bytes(), event[..cut].to_vec()].concat();
+            let expected = "refused 7 at 9\n";
+            same(&printed_in_pieces(&input, &[1])?, expected)
+                .map_err(|error| format!("cut after {cut} bytes: {error}"))?;
+            same(&model.program(&input), expected).map_err(|error| format!("model: {error}"))?;
+        }
     }
     Ok(())
 }
 
 /// A trace of at most this many different blocks, with runs, loops and random references.
-fn some_trace(random: &mut Random, blocks: u64) -> Vec<u64> {
+fn some_trace(random: &mut Random, blocks: u64) -> Vec<Event> {
     let base = random.any();
-    let mut trace: Vec<u64> = Vec::new();
+    let mut trace = Vec::new();
     for _ in 0..random.between(1, 40) {
         let from = random.below(blocks);
         let length = random.between(1, 60).min(blocks - from);
@@ -226,28 +245,67 @@ fn some_trace(random: &mut Random, blocks: u64) -> Vec<u64> {
                     2 => random.below(blocks),
                     _ => from + at,
                 };
-                trace.push(base.wrapping_add(block.wrapping_mul(0x1_0000_0001)));
+                let location = base.wrapping_add(block.wrapping_mul(0x1_0000_0001));
+                trace.push(Event::Location(location));
             }
         }
     }
     trace
 }
 
-/// Full-rate curves that the program prints, point by point against exact LRU caches.
+/// The same of I/Os: each from a byte to another one, of this many blocks that follow each other, the last one often that of the last
+/// byte of all. Some blocks are referred to as locations.
+fn some_spans(random: &mut Random, blocks: u64) -> Vec<Event> {
+    let first = match random.below(3) {
+        0 => (1 << 52) - blocks,
+        _ => random.below(1 << 40),
+    };
+    let mut trace = Vec::new();
+    for _ in 0..random.between(1, 400) {
+        let block = random.below(blocks);
+        let (from, left) = (block * 4096 + random.below(4096), blocks - block);
+        let most = left * 4096 - from % 4096;
+        let length = match random.below(3) {
+            0 => 65_536,
+            1 => random.below(4 * 4096),
+            _ => random.below(40 * 4096),
+        };
+        trace.push(match random.below(6) {
+            0 => Event::Location(first + block),
+            _ => Event::Span(first * 4096 + from, length.min(most) as u32),
+        });
+    }
+    trace
+}
+
+/// The blocks that the simulated caches are referred to.
+fn blocks_of(trace: &[Event]) -> Vec<u64> {
+    let blocks = trace.iter().map(|event| match event {
+        Event::Location(location) => vec![*location],
+        Event::Span(offset, length) => lru::blocks(*offset, *length),
+        other => unreachable!("{other:?} is no reference"),
+    });
+    blocks.collect::<Vec<_>>().concat()
+}
+
+/// Full-rate curves that the program prints, point by point against exact LRU caches. Every other trace is one of I/Os.
 pub fn full_rate(seed: u64, traces: u64) -> Result<u64, String> {
     let mut points = 0;
     for case in 0..traces {
         let mut random = Random::new(seed ^ (case << 28));
         let limit = random.between(1, 1024);
-        let trace = some_trace(&mut random, limit);
+        let trace = match case % 2 {
+            0 => some_trace(&mut random, limit),
+            _ => some_spans(&mut random, limit),
+        };
         let width = random.between(1, 40) as u32;
         let buckets = random.between(1, 30) as u32;
         let kind = random.below(2) as u8;
         let mut input = Event::Setup(limit as u32, P as u32, width, buckets, kind).bytes();
-        for block in &trace {
-            input.extend(Event::Location(*block).bytes());
+        for event in &trace {
+            input.extend(event.bytes());
         }
-        let expected = simulated(&trace, width.into(), buckets.into());
+        let expected = simulated(&blocks_of(&trace), width.into(), buckets.into());
         let text = printed(&input)?;
         let curve = text.split_once('\n').map_or("", |(_, points)| points);
         same(curve, &expected).map_err(|error| {
@@ -260,6 +318,9 @@ pub fn full_rate(seed: u64, traces: u64) -> Result<u64, String> {
 
 /// The points that the program must print at full rate, from an LRU cache of each size.
 fn simulated(trace: &[u64], width: u64, buckets: u64) -> String {
+    if trace.is_empty() {
+        return "empty\n".to_string();
+    }
     let mut text = String::new();
     let total = 256 * trace.len() as u64;
     for number in 0..=buckets {
@@ -271,17 +332,24 @@ fn simulated(trace: &[u64], width: u64, buckets: u64) -> String {
 }
 
 /// The program prints the published hash of L as the threshold: kind 4 with S 1, T0 P, hash kind 1, then references to L and to 0.
+/// Every third L is referred to by an I/O of its last byte.
 pub fn published_hash(seed: u64, locations: u64) -> Result<u64, String> {
     let mut random = Random::new(seed);
     let mut tried = 0;
     for case in 0..locations {
-        let location = published::location(&mut random, case);
+        let mut location = published::location(&mut random, case);
+        let event = if case % 3 == 2 {
+            location %= 1 << 52;
+            Event::Span(location << 12 | 4095, 1)
+        } else {
+            Event::Location(location)
+        };
         let hash = published::checked(location)?;
         if hash == 0 {
             continue;
         }
         let mut input = Event::Setup(1, P as u32, 0, 1, 1).bytes();
-        input.extend(Event::Location(location).bytes());
+        input.extend(event.bytes());
         input.extend(Event::Location(0).bytes());
         let first = format!("curve refs 2 sampled 2 threshold {hash} live 1");
         let text = printed(&input)?;

@@ -26,9 +26,10 @@ pub fn some_settings(random: &mut Random) -> Settings {
 
 fn some_record(random: &mut Random) -> Record {
     let settings = some_settings(random);
-    let references = match random.below(5) {
+    let references = match random.below(6) {
         0 => random.between(MOST_REFERENCES - 1, MOST_REFERENCES),
-        1 => random.between(0, MOST_REFERENCES),
+        1 => random.between(MOST_REFERENCES - 20, MOST_REFERENCES),
+        2 => random.between(0, MOST_REFERENCES),
         _ => random.between(0, 40),
     };
     let threshold = match random.below(4) {
@@ -174,7 +175,9 @@ fn damage_length(random: &mut Random, tracker: &mut Tracker) {
 fn damage_bucket(random: &mut Random, tracker: &mut Tracker) {
     let number = edge(random, tracker.record);
     let most = tracker.record.references.wrapping_mul(256);
-    match random.below(5) {
+    let first = tracker.record.settings.buckets.saturating_add(1);
+    match random.below(6) {
+        5 if first < tracker.thresholds.len() as u64 => tracker.thresholds[first as usize] = 0,
         0 if !tracker.counts.is_empty() => {
             let at = random.below(tracker.counts.len() as u64) as usize;
             tracker.counts[at] = number;
