@@ -168,6 +168,71 @@ fn lowering() -> HotPath {
     }
 }
 
+/// I/Os of 64 KiB, each of 16 blocks; `next` chooses the number of the first block from the turn.
+struct Spans<E> {
+    engine: E,
+    turn: u64,
+    next: fn(turn: u64) -> u64,
+}
+
+impl<E: Engine> Work for Spans<E> {
+    fn run(&mut self, count: usize) -> u64 {
+        let mut refused = 0;
+        for _ in 0..count {
+            let offset = (self.next)(self.turn) * 4096;
+            self.turn += 1;
+            refused += u64::from(self.engine.refer_span(offset, 65_536).is_err());
+        }
+        refused
+    }
+
+    fn state(&self) -> Vec<u64> {
+        state_of(&self.engine)
+    }
+}
+
+fn span_skipped() -> HotPath {
+    fn work<E: Engine + 'static>() -> Box<dyn Work> {
+        Box::new(Spans {
+            engine: E::new(settings(1024, 1, 256, 1)),
+            turn: 1,
+            next: |turn| turn.wrapping_mul(0x9e37_79b9_7f4a_7c15) >> 13,
+        })
+    }
+    HotPath {
+        name: "an I/O of 16 blocks, all Skipped".to_string(),
+        timed: 400_000,
+        counted: 1_000,
+        proved: work::<Proved>,
+        plain: work::<Plain>,
+    }
+}
+
+/// The first half of the listed blocks is referred to over and over, so that each is found at the middle of the list.
+fn span_again() -> HotPath {
+    fn work<E: Engine + 'static>() -> Box<dyn Work> {
+        let mut engine = E::new(settings(1024, FULL_RATE, 256, 1));
+        for x in (0..1024).rev() {
+            let _ = engine.refer(x);
+        }
+        for x in 0..512 {
+            let _ = engine.refer(x);
+        }
+        Box::new(Spans {
+            engine,
+            turn: 0,
+            next: |turn| turn % 32 * 16,
+        })
+    }
+    HotPath {
+        name: "an I/O of 16 blocks, Again, S 1024".to_string(),
+        timed: 25_000,
+        counted: 32,
+        proved: work::<Proved>,
+        plain: work::<Plain>,
+    }
+}
+
 struct Points<E> {
     engine: E,
     buckets: u64,
@@ -241,7 +306,7 @@ fn reading() -> HotPath {
     fn work<E: Engine>() -> Box<dyn Work> {
         Box::new(Reads {
             read: E::READ,
-            bytes: crate::program::trace(READ_EVENTS),
+            bytes: crate::program::references(READ_EVENTS),
         })
     }
     HotPath {
@@ -280,7 +345,7 @@ fn feeding() -> HotPath {
     fn work<E: Engine + 'static>() -> Box<dyn Work> {
         Box::new(Feeds {
             engine: E::new(settings(1024, FULL_RATE / 10, 256, 1)),
-            bytes: crate::program::trace(READ_EVENTS),
+            bytes: crate::program::references(READ_EVENTS),
         })
     }
     HotPath {
@@ -299,6 +364,8 @@ pub fn hot_paths() -> Vec<HotPath> {
         again::<1024>(),
         again::<8192>(),
         lowering(),
+        span_skipped(),
+        span_again(),
         point::<256>(),
         point::<10_000>(),
         reading(),

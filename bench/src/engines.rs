@@ -13,6 +13,7 @@ pub trait Engine {
     const READ: Read;
     fn new(settings: Settings) -> Self;
     fn refer(&mut self, location: u64) -> Result<Answer, u64>;
+    fn refer_span(&mut self, offset: u64, length: u32) -> Result<(), u64>;
     fn point(&self, believed: (u64, u64), number: u64) -> CPoint;
     fn feed(&mut self, bytes: &[u8]) -> CFed;
     fn tables(&self) -> &Tables;
@@ -47,6 +48,11 @@ impl Engine for Proved {
     #[inline(always)]
     fn refer(&mut self, location: u64) -> Result<Answer, u64> {
         proved::refer(&mut self.words, location, &mut self.tables)
+    }
+
+    #[inline(always)]
+    fn refer_span(&mut self, offset: u64, length: u32) -> Result<(), u64> {
+        proved::refer_span(&mut self.words, offset, length, &mut self.tables)
     }
 
     #[inline(always)]
@@ -93,6 +99,11 @@ impl Engine for Plain {
             &mut t.counts,
             &mut t.thresholds,
         )
+    }
+
+    #[inline(always)]
+    fn refer_span(&mut self, offset: u64, length: u32) -> Result<(), u64> {
+        plain::refer_span(&mut self.record, offset, length, &mut self.tables)
     }
 
     #[inline(always)]

@@ -45,9 +45,10 @@ fn table(size: Option<Size>, counter: &[String]) {
         .enumerate()
         .map(|(number, path)| path.row(number, size, counter.as_ref()))
         .collect();
-    let program = program::row(size, counter.as_ref(), &curve);
+    let program = program::REFERENCES.row(size, counter.as_ref(), &curve);
     let speed = program.nanoseconds.map(|cost| 1e3 / cost.proved);
     rows.push(program);
+    rows.push(program::SPANS.row(size, counter.as_ref(), &curve));
     measure::print(&rows);
     if let Some(speed) = speed {
         println!("the program: {speed:.1} million events in a second");

@@ -285,6 +285,32 @@ fn refused(refusal: u64) -> CPoint {
     }
 }
 
+/// Whether an I/O has a byte past the last one.
+#[inline]
+fn overruns(offset: u64, length: u32) -> bool {
+    length != 0 && offset.checked_add(u64::from(length) - 1).is_none()
+}
+
+/// One I/O: a reference to each of its blocks.
+#[inline(never)]
+pub fn refer_span(k: &mut Record, offset: u64, length: u32, t: &mut Tables) -> Result<(), u64> {
+    if overruns(offset, length) {
+        return Err(10);
+    }
+    each_block(k, offset, length, t)
+}
+
+fn each_block(k: &mut Record, offset: u64, length: u32, t: &mut Tables) -> Result<(), u64> {
+    if length == 0 {
+        return Ok(());
+    }
+    let last = offset + u64::from(length) - 1;
+    for block in offset / 4096..=last / 4096 {
+        one(k, block, t)?;
+    }
+    Ok(())
+}
+
 /// The first event of the bytes, with the number of bytes it took.
 #[inline(always)]
 pub fn read(bytes: &[u8]) -> Result<(Event, usize), u64> {
@@ -293,6 +319,7 @@ pub fn read(bytes: &[u8]) -> Result<(Event, usize), u64> {
     match bytes.first() {
         None => Err(7),
         Some(1) if bytes.len() >= 9 => Ok((Event::Location(long(1)), 9)),
+        Some(2) if bytes.len() >= 13 && overruns(long(1), word(9)) => Err(10),
         Some(2) if bytes.len() >= 13 => Ok((Event::Span(long(1), word(9)), 13)),
         Some(3) => Ok((Event::Restart, 1)),
         Some(4) if bytes.len() >= 18 => Ok((
@@ -304,12 +331,11 @@ pub fn read(bytes: &[u8]) -> Result<(Event, usize), u64> {
     }
 }
 
-/// One trace event.
+/// One trace event, as it was read.
 pub fn apply(k: &mut Record, event: Event, t: &mut Tables) -> Result<(), u64> {
     match event {
         Event::Location(x) => one(k, x, t),
-        Event::Span(_, 0) => Ok(()),
-        Event::Span(offset, _) => one(k, offset / 4096, t),
+        Event::Span(offset, length) => each_block(k, offset, length, t),
         Event::Restart => {
             *k = restart(k, t)?;
             Ok(())

@@ -7,23 +7,42 @@ use std::io::{self, Read, Write};
 use std::path::{Path, PathBuf};
 use std::process::Command;
 
-/// A made-up trace of this many events: locations over a few million blocks, every fourth a span.
-pub fn trace(events: usize) -> Vec<u8> {
-    let mut bytes = Vec::with_capacity(events * 10);
+/// Made-up blocks, this many, out of a few million.
+fn blocks(events: usize) -> impl Iterator<Item = u64> {
     let mut state: u64 = 0x2545_f491_4f6c_dd1d;
-    for turn in 0..events {
+    (0..events as u64).map(move |turn| {
         state ^= state << 13;
         state ^= state >> 7;
         state ^= state << 17;
-        let block = (state >> 40) % (1 + (turn as u64 % 4_000_000));
+        (state >> 40) % (1 + turn % 4_000_000)
+    })
+}
+
+fn put_span(bytes: &mut Vec<u8>, block: u64, length: u32) {
+    bytes.push(2);
+    bytes.extend_from_slice(&(block * 4096).to_le_bytes());
+    bytes.extend_from_slice(&length.to_le_bytes());
+}
+
+/// A made-up trace of this many events, each one reference; every fourth is a span.
+pub fn references(events: usize) -> Vec<u8> {
+    let mut bytes = Vec::with_capacity(events * 10);
+    for (turn, block) in blocks(events).enumerate() {
         if turn % 4 == 3 {
-            bytes.push(2);
-            bytes.extend_from_slice(&(block * 4096).to_le_bytes());
-            bytes.extend_from_slice(&4096u32.to_le_bytes());
+            put_span(&mut bytes, block, 4096);
         } else {
             bytes.push(1);
             bytes.extend_from_slice(&block.to_le_bytes());
         }
+    }
+    bytes
+}
+
+/// A made-up trace of this many I/Os of 64 KiB, each of 16 blocks.
+fn spans(events: usize) -> Vec<u8> {
+    let mut bytes = Vec::with_capacity(events * 13);
+    for block in blocks(events) {
+        put_span(&mut bytes, block, 65_536);
     }
     bytes
 }
@@ -95,10 +114,10 @@ fn print_curve(k: &Record, t: &Tables) {
 struct TraceFile(PathBuf);
 
 impl TraceFile {
-    fn new(events: usize) -> TraceFile {
-        let name = format!("rockgingham-bench-{}-{events}", std::process::id());
+    fn new(bytes: &[u8]) -> TraceFile {
+        let name = format!("rockgingham-bench-{}-{}", std::process::id(), bytes.len());
         let path = std::env::temp_dir().join(name);
-        std::fs::write(&path, trace(events)).expect("the trace can be written");
+        std::fs::write(&path, bytes).expect("the trace can be written");
         TraceFile(path)
     }
 
@@ -113,8 +132,28 @@ impl Drop for TraceFile {
     }
 }
 
-const TIMED: usize = 10_000_000;
-const COUNTED: usize = 1_000_000;
+/// A kind of trace: how many events are timed in a round at the full size, and how many are counted.
+pub struct Kind {
+    name: &'static str,
+    timed: usize,
+    counted: usize,
+    trace: fn(events: usize) -> Vec<u8>,
+}
+
+/// About 100 MB are timed.
+pub const REFERENCES: Kind = Kind {
+    name: "the program, an event",
+    timed: 10_000_000,
+    counted: 1_000_000,
+    trace: references,
+};
+
+pub const SPANS: Kind = Kind {
+    name: "the program, an I/O of 16 blocks",
+    timed: 1_000_000,
+    counted: 100_000,
+    trace: spans,
+};
 
 /// What a program prints for a trace.
 fn printed(mut command: Command, trace: &TraceFile) -> String {
@@ -123,44 +162,46 @@ fn printed(mut command: Command, trace: &TraceFile) -> String {
     String::from_utf8_lossy(&output).into_owned()
 }
 
-fn timed(size: Size, curve: &Path, own: &Path) -> Cost {
-    let events = TIMED / size.scale;
-    let trace = TraceFile::new(events);
-    nanoseconds(
-        "the program",
-        size.rounds.min(5),
-        events,
-        || printed(Command::new(curve), &trace),
-        || {
-            let mut plain = Command::new(own);
-            plain.arg("curve");
-            printed(plain, &trace)
-        },
-    )
-}
+impl Kind {
+    fn timed(&self, size: Size, curve: &Path, own: &Path) -> Cost {
+        let events = self.timed / size.scale;
+        let trace = TraceFile::new(&(self.trace)(events));
+        nanoseconds(
+            self.name,
+            size.rounds.min(5),
+            events,
+            || printed(Command::new(curve), &trace),
+            || {
+                let mut plain = Command::new(own);
+                plain.arg("curve");
+                printed(plain, &trace)
+            },
+        )
+    }
 
-/// Counts on a trace, and on one that is twice as long and begins with it.
-fn counted(counter: &Counter, curve: &Path, own: &Path) -> Cost {
-    let traces = [TraceFile::new(COUNTED), TraceFile::new(2 * COUNTED)];
-    let input = |events: usize| traces[events / COUNTED - 1].open();
-    counter.instructions(
-        "the program",
-        COUNTED,
-        |command, events| {
-            command.arg(curve).stdin(input(events));
-        },
-        |command, events| {
-            command.arg(own).arg("curve").stdin(input(events));
-        },
-    )
-}
+    /// Counts on a trace, and on one that is twice as long and begins with it.
+    fn counted(&self, counter: &Counter, curve: &Path, own: &Path) -> Cost {
+        let traces = [self.counted, 2 * self.counted].map(|n| TraceFile::new(&(self.trace)(n)));
+        let input = |events: usize| traces[events / self.counted - 1].open();
+        counter.instructions(
+            self.name,
+            self.counted,
+            |command, events| {
+                command.arg(curve).stdin(input(events));
+            },
+            |command, events| {
+                command.arg(own).arg("curve").stdin(input(events));
+            },
+        )
+    }
 
-/// Both programs on one trace; about 100 MB are timed at the full size.
-pub fn row(size: Option<Size>, counter: Option<&Counter>, curve: &Path) -> Row {
-    let own = std::env::current_exe().expect("this program's own path");
-    Row {
-        name: "the program, an event".to_string(),
-        nanoseconds: size.map(|size| timed(size, curve, &own)),
-        instructions: counter.map(|counter| counted(counter, curve, &own)),
+    /// Both programs on one trace.
+    pub fn row(&self, size: Option<Size>, counter: Option<&Counter>, curve: &Path) -> Row {
+        let own = std::env::current_exe().expect("this program's own path");
+        Row {
+            name: self.name.to_string(),
+            nanoseconds: size.map(|size| self.timed(size, curve, &own)),
+            instructions: counter.map(|counter| self.counted(counter, curve, &own)),
+        }
     }
 }

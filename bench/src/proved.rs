@@ -78,6 +78,34 @@ pub fn refer(
 }
 
 #[inline(always)]
+pub fn refer_span(
+    record: &mut [u64; RECORD_WORDS],
+    offset: u64,
+    length: u32,
+    t: &mut Tables,
+) -> Result<(), u64> {
+    // SAFETY: each pointer is passed with its own length, and no two of them overlap.
+    let refusal = unsafe {
+        rockgingham_refer_span(
+            record.as_mut_ptr(),
+            record.len(),
+            offset,
+            length,
+            t.locations.as_mut_ptr(),
+            t.locations.len(),
+            t.counts.as_mut_ptr(),
+            t.counts.len(),
+            t.thresholds.as_mut_ptr(),
+            t.thresholds.len(),
+        )
+    };
+    match refusal {
+        0 => Ok(()),
+        number => Err(number),
+    }
+}
+
+#[inline(always)]
 pub fn point(
     record: &[u64; RECORD_WORDS],
     believed: (u64, u64),
