@@ -118,7 +118,7 @@ static uint64_t call(struct tracker *t, const struct rockgingham_event *event)
     case ROCKGINGHAM_EVENT_LOCATION:
         return rockgingham_refer(RECORD(t), event->location, TABLES(t)).refusal;
     case ROCKGINGHAM_EVENT_SPAN:
-        return event->length == 0 ? ROCKGINGHAM_ACCEPTED : rockgingham_refer(RECORD(t), event->offset / 4096, TABLES(t)).refusal;
+        return rockgingham_refer_span(RECORD(t), event->offset, (uint32_t)event->length, TABLES(t));
     case ROCKGINGHAM_EVENT_RESTART:
         return rockgingham_restart(RECORD(t), TABLES(t));
     default:
@@ -208,6 +208,29 @@ static void check_replies(void)
     expect("distance", answer.distance, 1);
 }
 
+/* Blocks 5 to 7, then 8 to 10, of which 10 is refused 4; past the last byte nothing is counted. */
+static void check_spans(void)
+{
+    static struct tracker tracker;
+    struct tracker *t = &tracker;
+    uint64_t *references = &t->record[ROCKGINGHAM_WORD_REFERENCES];
+    uint64_t before;
+    struct rockgingham_settings low = settings;
+    low.start = 9;
+    expect("setup", rockgingham_setup(RECORD(t), low, TABLES(t)), ROCKGINGHAM_ACCEPTED);
+    expect("span", rockgingham_refer_span(RECORD(t), 5 * 4096 + 4095, 4098, TABLES(t)), ROCKGINGHAM_ACCEPTED);
+    expect("references of a span", *references, 3);
+    expect("latest of a span", t->locations[0], 7);
+    expect("span of length 0", rockgingham_refer_span(RECORD(t), UINT64_MAX, 0, TABLES(t)), ROCKGINGHAM_ACCEPTED);
+    expect("span past the last byte", rockgingham_refer_span(RECORD(t), UINT64_MAX, 2, TABLES(t)), ROCKGINGHAM_REFUSED_OVERRUN);
+    expect("overrun before words", rockgingham_refer_span(t->record, 0, UINT64_MAX, 2, TABLES(t)), ROCKGINGHAM_REFUSED_OVERRUN);
+    expect("references afterwards", *references, 3);
+    before = *references = UINT32_MAX - 2;
+    expect("span, full", rockgingham_refer_span(RECORD(t), 8 * 4096, 3 * 4096, TABLES(t)), ROCKGINGHAM_REFUSED_FULL);
+    expect("references of a refused span", *references - before, 2);
+    expect("latest of a refused span", t->locations[0], 8);
+}
+
 /* Too few words are refused 2 before all else, by setup after 1. Nothing is taken, and nothing changes. */
 static void check_few_words(size_t few)
 {
@@ -220,6 +243,8 @@ static void check_few_words(size_t few)
         rockgingham_setup(t->record, few, settings, TABLES(t)),
         rockgingham_restart(t->record, few, TABLES(t)),
         rockgingham_refer(t->record, few, 7, TABLES(t)).refusal,
+        rockgingham_refer_span(t->record, few, 7, 7, TABLES(t)),
+        rockgingham_refer_span(t->record, few, 7, 0, TABLES(t)),
         rockgingham_point(t->record, few, shape, 9, BUCKET_TABLES(t)).refusal,
         rockgingham_plot(t->record, few, shape, 9, BUCKET_TABLES(t)).refusal,
         rockgingham_apply(t->record, few, &unknown, 1, TABLES(t)).refusal,
@@ -237,6 +262,12 @@ static void check_reading(void)
 {
     const uint8_t bytes[] = {ROCKGINGHAM_EVENT_LOCATION, 0};
     const uint8_t unknown = ROCKGINGHAM_EVENT_SETUP + 1;
+    uint8_t span[ROCKGINGHAM_LENGTH_SPAN];
+    memset(span, 0xff, sizeof span);
+    span[0] = ROCKGINGHAM_EVENT_SPAN;
+    expect("read of a span past the last byte", rockgingham_read(span, sizeof span).refusal, ROCKGINGHAM_REFUSED_OVERRUN);
+    expect("read of its beginning", rockgingham_read(span, sizeof span - 1).refusal, ROCKGINGHAM_REFUSED_SHORT);
+    expect("write of it", rockgingham_write_span(UINT64_MAX, UINT32_MAX, span, 0).refusal, ROCKGINGHAM_REFUSED_OVERRUN);
     expect("read of no bytes", rockgingham_read(bytes, 0).refusal, ROCKGINGHAM_REFUSED_SHORT);
     expect("read of too few bytes", rockgingham_read(bytes, LENGTH(bytes)).refusal, ROCKGINGHAM_REFUSED_SHORT);
     expect("read of an unknown kind", rockgingham_read(&unknown, 1).refusal, ROCKGINGHAM_REFUSED_KIND);
@@ -254,6 +285,7 @@ int main(void)
     measure("applied: ", apply, trace, length);
     measure("read: ", read_and_call, trace, length);
     check_replies();
+    check_spans();
     for (size_t few = 0; few < ROCKGINGHAM_RECORD_WORDS; few++) {
         check_few_words(few);
     }

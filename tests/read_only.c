@@ -1,7 +1,8 @@
 /*
  * A refused call stores nothing, not even what stands there already: here the record, the tables, the bytes of events and the
- * buffers are in read-only memory, and every call that can be refused is refused there, by each of its refusals. Points are
- * answered there too. A call that stores something is named, and the test fails.
+ * buffers are in read-only memory, and every call that can be refused is refused there, by each of its refusals, an I/O at its
+ * first reference. Points are answered there too, and an I/O of length 0 is accepted. A call that stores something is named, and
+ * the test fails.
  */
 #include "rockgingham.h"
 
@@ -13,6 +14,7 @@
 #include <unistd.h>
 
 enum { LIMIT = 4, WIDTH = 1, BUCKETS = 4, NEEDED = ROCKGINGHAM_COUNTS_NEEDED(BUCKETS), FIRST = BUCKETS + 1, MEMORY = 65536 };
+enum { SPAN = 65536 }; /* the length of an I/O */
 
 /* Everything that is lent. */
 struct lent {
@@ -22,6 +24,8 @@ struct lent {
     uint32_t thresholds[NEEDED];
     uint8_t location_event[ROCKGINGHAM_LENGTH_LOCATION];
     uint8_t span_event[ROCKGINGHAM_LENGTH_SPAN];
+    uint8_t empty_event[ROCKGINGHAM_LENGTH_SPAN];
+    uint8_t overrun_event[ROCKGINGHAM_LENGTH_SPAN];
     uint8_t restart_event[ROCKGINGHAM_LENGTH_RESTART];
     uint8_t setup_event[ROCKGINGHAM_LENGTH_SETUP];
     uint8_t unknown_event[ROCKGINGHAM_LENGTH_SETUP];
@@ -148,7 +152,9 @@ static void end(void)
     EXPECT(struct rockgingham_written, "write location",
            rockgingham_write_location(location, lent->location_event, sizeof lent->location_event), ROCKGINGHAM_ACCEPTED);
     EXPECT(struct rockgingham_written, "write span",
-           rockgingham_write_span(location * 4096, 1, lent->span_event, sizeof lent->span_event), ROCKGINGHAM_ACCEPTED);
+           rockgingham_write_span(location * 4096, SPAN, lent->span_event, sizeof lent->span_event), ROCKGINGHAM_ACCEPTED);
+    EXPECT(struct rockgingham_written, "write a span of length 0",
+           rockgingham_write_span(UINT64_MAX, 0, lent->empty_event, sizeof lent->empty_event), ROCKGINGHAM_ACCEPTED);
     EXPECT(struct rockgingham_written, "write restart",
            rockgingham_write_restart(lent->restart_event, sizeof lent->restart_event), ROCKGINGHAM_ACCEPTED);
     EXPECT(struct rockgingham_written, "write setup",
@@ -156,6 +162,8 @@ static void end(void)
                                    (uint32_t)settings.buckets, (uint8_t)settings.hash_kind, lent->setup_event,
                                    sizeof lent->setup_event),
            ROCKGINGHAM_ACCEPTED);
+    memset(lent->overrun_event, 0xff, sizeof lent->overrun_event);
+    lent->overrun_event[0] = ROCKGINGHAM_EVENT_SPAN;
     lent->unknown_event[0] = ROCKGINGHAM_EVENT_SETUP + 1;
     allow_writing(0);
 }
@@ -277,6 +285,7 @@ enum {
     STALE = ROCKGINGHAM_REFUSED_STALE,
     ABOVE = ROCKGINGHAM_REFUSED_POINT,
     EMPTY = ROCKGINGHAM_REFUSED_EMPTY,
+    OVERRUN = ROCKGINGHAM_REFUSED_OVERRUN,
     ANSWERED = ROCKGINGHAM_ACCEPTED
 };
 
@@ -310,7 +319,7 @@ static const struct {
 
 /* ---- the calls */
 
-/* An event whose call is refused, applied and fed. */
+/* An event that stores nothing, applied and fed. */
 static void refuse_event(const char *name, const uint8_t *bytes, size_t length, uint64_t expected)
 {
     EXPECT(struct rockgingham_applied, name, rockgingham_apply(RECORD, bytes, length, TABLES), expected);
@@ -330,8 +339,20 @@ static void refuse_calls(uint64_t setup, uint64_t restart, uint64_t refer)
     if (refer != WRITES) {
         EXPECT(struct rockgingham_answer, "refer", rockgingham_refer(RECORD, location, TABLES), refer);
         refuse_event("location event", lent->location_event, sizeof lent->location_event, refer);
+        EXPECT(uint64_t, "refer span", rockgingham_refer_span(RECORD, location * 4096, SPAN, TABLES), refer);
         refuse_event("span event", lent->span_event, sizeof lent->span_event, refer);
     }
+}
+
+/* I/O that makes no reference: past the last byte, which comes even before too few words, and of length 0. */
+static void refer_to_nothing(void)
+{
+    const int few = words < ROCKGINGHAM_RECORD_WORDS;
+    const uint64_t none = few ? SHORT : ROCKGINGHAM_ACCEPTED;
+    EXPECT(uint64_t, "refer past the last byte", rockgingham_refer_span(RECORD, UINT64_MAX, 2, TABLES), OVERRUN);
+    EXPECT(uint64_t, "refer with length 0", rockgingham_refer_span(RECORD, UINT64_MAX, 0, TABLES), none);
+    refuse_event("overrun event", lent->overrun_event, sizeof lent->overrun_event, few ? SHORT : OVERRUN);
+    refuse_event("event of length 0", lent->empty_event, sizeof lent->empty_event, none);
 }
 
 static void ask(uint64_t point)
@@ -364,7 +385,13 @@ static void read_and_write(void)
     EXPECT(struct rockgingham_event, "read an unknown kind", rockgingham_read(lent->unknown_event, 1), ROCKGINGHAM_REFUSED_KIND);
     EXPECT(struct rockgingham_written, "write location", rockgingham_write_location(7, buffer, ROCKGINGHAM_LENGTH_LOCATION - 1),
            SHORT);
+    EXPECT(struct rockgingham_event, "read past the last byte",
+           rockgingham_read(lent->overrun_event, sizeof lent->overrun_event), OVERRUN);
     EXPECT(struct rockgingham_written, "write span", rockgingham_write_span(7, 7, buffer, ROCKGINGHAM_LENGTH_SPAN - 1), SHORT);
+    EXPECT(struct rockgingham_written, "write past the last byte",
+           rockgingham_write_span(UINT64_MAX, 2, buffer, ROCKGINGHAM_LENGTH_SPAN), OVERRUN);
+    EXPECT(struct rockgingham_written, "write past the last byte, too few bytes",
+           rockgingham_write_span(UINT64_MAX, 2, buffer, ROCKGINGHAM_LENGTH_SPAN - 1), OVERRUN);
     EXPECT(struct rockgingham_written, "write restart", rockgingham_write_restart(buffer, ROCKGINGHAM_LENGTH_RESTART - 1), SHORT);
     EXPECT(struct rockgingham_written, "write setup",
            rockgingham_write_setup(7, 7, 7, 7, 1, buffer, ROCKGINGHAM_LENGTH_SETUP - 1), SHORT);
@@ -390,6 +417,7 @@ int main(void)
         end();
         check_protection();
         refuse_calls(states[i].setup, states[i].restart, states[i].refer);
+        refer_to_nothing();
         ask(states[i].point);
         refuse_unreadable();
         read_and_write();
