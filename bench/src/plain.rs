@@ -305,7 +305,7 @@ fn each_block(k: &mut Record, offset: u64, length: u32, t: &mut Tables) -> Resul
         return Ok(());
     }
     let last = offset + u64::from(length) - 1;
-    for block in offset / 4096..=last / 4096 {
+    for block in offset / 4096..last / 4096 + 1 {
         one(k, block, t)?;
     }
     Ok(())
