@@ -34,8 +34,8 @@
  * fields of what a refused call returns are 0, except what rockgingham_feed has taken. A refused call stores nothing: no word of
  * a record, no entry of a table, no byte of a buffer, not even the value that is there already. There are two exceptions:
  *   - rockgingham_feed keeps what the events before the refused one did;
- *   - a span, by rockgingham_refer_span or as an event by rockgingham_apply or rockgingham_feed, is several references, made one
- *     after the other. If one of them is refused, those before it stay counted. See rockgingham_refer_span.
+ *   - a span stands for several references, made one after the other. If one of them is refused, by rockgingham_refer_span,
+ *     rockgingham_apply or rockgingham_feed, those before it stay counted. See rockgingham_refer_span.
  *
  * WHAT THE CALLER MUST GUARANTEE. The proofs begin at the call; these are up to the caller:
  *   - each pointer is valid and aligned for its type, and never null: where there is nothing to lend, pass any object with
@@ -54,7 +54,7 @@
  *   - at most in proportion to B: setup, restart, a point, a plot;
  *   - at most in proportion to S: a reference that is sampled;
  *   - a short time, whatever S and B are: a reference that is Skipped, the hash, the version, reading and writing an event;
- *   - a span: each of its references as above. A single one can stand for up to 2^20 + 1 references;
+ *   - a span: each of its references as above. A single span can stand for up to 2^20 + 1 references;
  *   - apply and feed: each event as the call that it stands for.
  */
 #ifndef ROCKGINGHAM_H
@@ -93,8 +93,7 @@ enum rockgingham_refusal {
     ROCKGINGHAM_REFUSED_SHORT = 7,    /* the event is incomplete, or there are no bytes at all */
     ROCKGINGHAM_REFUSED_KIND = 8,     /* the event's kind byte is 0 or above 4 */
     ROCKGINGHAM_REFUSED_EMPTY = 9,    /* the curve's total is 0 */
-    ROCKGINGHAM_REFUSED_OVERRUN = 10  /* the last byte of a span is past 2^64 - 1: its length is not 0, and offset + length - 1 is
-                                         above that */
+    ROCKGINGHAM_REFUSED_OVERRUN = 10  /* the length of a span is not 0, and offset + length - 1 is above 2^64 - 1 */
 };
 
 /*
@@ -191,7 +190,8 @@ struct rockgingham_answer rockgingham_refer(uint64_t *record, size_t record_word
 
 /*
  * One I/O: a reference to each block that holds one of its bytes, from offset / 4,096 to (offset + length - 1) / 4,096, in rising
- * order. A length of 0 makes none, and judges no record and no table. A single I/O can stand for up to 2^20 + 1 references.
+ * order. A single I/O can stand for up to 2^20 + 1 references. A length of 0 makes none; then no table is judged, and of the
+ * record only the number of words.
  *
  * The references are made one after the other, each as by rockgingham_refer, until one is refused. The refused reference changes
  * nothing and ends the call. Those before it stay counted: the record and the tables are left exactly as those alone would leave
@@ -318,7 +318,7 @@ struct rockgingham_event {
 
 /*
  * Reads the first event of the bytes. Numbers that its kind does not have are 0.
- * Refusals: 7 if there are no bytes, 8, 7, then 10 for a span.
+ * Refusals: 7 if there are no bytes, 8, 7, 10 (only a span).
  */
 struct rockgingham_event rockgingham_read(const uint8_t *bytes, size_t length);
 
@@ -329,7 +329,7 @@ struct rockgingham_written {
 
 /*
  * Each writes one event at the front of the buffer, and no byte after it.
- * Refusals: 10 for a span, then 2 if the buffer is shorter than the event.
+ * Refusals: 10 (only a span), 2 if the buffer is shorter than the event.
  */
 struct rockgingham_written rockgingham_write_location(uint64_t location, uint8_t *buffer, size_t buffer_length);
 struct rockgingham_written rockgingham_write_span(uint64_t offset, uint32_t length, uint8_t *buffer, size_t buffer_length);

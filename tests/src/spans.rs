@@ -20,7 +20,7 @@ pub const WANTED: &[(&str, &[&str])] = &[
         &["Full inside at once", "TornBucket inside at once"],
     ),
     ("accepted before 4", &["1", "2", "5", "16"]),
-    ("accepted before 3", &["1", "2", "5"]),
+    ("accepted before 3", &["1", "2", "3"]),
     ("largest count", &["too large at first", "never too large"]),
 ];
 
