@@ -24,11 +24,11 @@ use Rattle.rules.specs.Answers.{refused, gives, number, replyResult, takenResul
 use Rattle.rules.specs.Order.{Outcome, outcome}
 use Rattle.rules.specs.Events.{Fits, blockOf, rising, blocksIn, overrun}
 use Rattle.rules.specs.Layout.{Tracker, tracker, tablesOf}
-use Rattle.rules.specs.Calls.{setupOf, restartOf, referOf, startedOver, referAll, spanOf, applyOf}
+use Rattle.rules.specs.Calls.{setupOf, restartOf, referOf, startedOver, referAll, applyOf}
 use Rattle.rules.proofs.Tests.{cases, clash}
 use Rattle.rules.proofs.Answers.{refused-same}
 use Rattle.rules.proofs.Order.{not-both}
-use Rattle.rules.proofs.Spans.{blocks-fit, Going, goes-on, goes-refused}
+use Rattle.rules.proofs.Spans.{blocks-fit, Going, goes-on, goes-refused, span-overrun, span-refers}
 use Rattle.apply.specs.declared.Call.{Call}
 use Rattle.apply.specs.declared.Call.the-variants as call
 use Rattle.apply.specs.EventCall.{callOf, startedOn, takenOf}
@@ -46,9 +46,11 @@ doneOf call.Overrun s = outcome (refused 10) s
 
 -- an event asks for what the rules make of it
 done-is : (e : Event) (s : Tracker) → doneOf (callOf e) s ≡ applyOf e s
-unfolding applyOf spanOf
+unfolding applyOf
 done-is (event.Location x) s = refl
-done-is (event.Span offset bytes) s = cases (overrun offset bytes) (λ o. rw o) (λ o. rw o)
+done-is (event.Span offset bytes) s = cases (overrun offset bytes)
+    (λ o. rw (o, span-overrun offset bytes s o))
+    (λ o. rw (o, span-refers offset bytes s o))
 done-is event.Restart s = refl
 done-is (event.Setup b) s = refl
 

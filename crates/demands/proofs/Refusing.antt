@@ -27,7 +27,7 @@ use Rattle.rules.specs.Events.{settingsOf, referencesOf, overrun}
 use Rattle.rules.specs.Layout.{Tracker, hashFor, profileOf, counted, stored, freshBuckets, freshTables, freshRecord, fresh}
 use Rattle.rules.specs.Conditions.{bucketsTooShort, tooShort, tornRecord, tornAt, tornFor, full, stale}
 use Rattle.rules.specs.Calls.{setupOrder, setupOf, restartOrder, restartOf, stepOf, referOrder, referOf, startedOver, goingOn, referAll}
-use Rattle.rules.specs.Calls.{pointOf, plotOf, spanOf, applyOf}
+use Rattle.rules.specs.Calls.{pointOf, plotOf, applyOf}
 use Rattle.rules.specs.History.{Reference}
 use Rattle.rules.proofs.Tests.{cases, clash, or-left, or-right}
 use Rattle.rules.proofs.Order.{not-both, either, says-given, says-refused, leaves-was, leaves-both, says-before, says-behind, says-some}
@@ -35,7 +35,7 @@ use Rattle.rules.proofs.Answers.{pointed-injective, plotted-injective}
 use Rattle.rules.proofs.Bounds.{buckets-none-short}
 use Rattle.rules.proofs.Calls.{refer-accept, refer-either, sample-stored, point-torn, point-short, point-stale, plot-is}
 use Rattle.rules.proofs.Calls.{plotted as plotted-as}
-use Rattle.rules.proofs.Spans.{all-on, all-refused, all-none}
+use Rattle.rules.proofs.Spans.{all-on, all-refused, all-none, span-overrun, span-refers}
 use Rattle.demands.specs.Refusing.{isSpan, Untouched, InOrder, NeverZero, referAllOrder, applyOrder, ApplyInOrder}
 use Rattle.demands.specs.Refusing.{AnotherShape, RefusedAs, staleOr}
 use Rattle.demands.specs.Refusing.{StaleByName, StaleInARun}
@@ -109,11 +109,11 @@ all-in-order (x ∷ xs) s = refer-either x s
     ∙ sym (says-before (referOrder x s) (referAllOrder xs (referOf x s .left)) (stepOf x s .reply) tt (ap (λ o. o .result) e)))
 
 pub apply-in-order : ApplyInOrder
-unfolding applyOf spanOf
+unfolding applyOf
 apply-in-order (Location x) s = ap (λ o. o .result) (apply-is (Location x) s refl)
 apply-in-order (Span offset bytes) s = cases (overrun offset bytes)
-    (λ o. rw o)
-    (λ o. rw o (all-in-order (referencesOf (Span offset bytes)) s))
+    (λ o. rw (o, span-overrun offset bytes s o))
+    (λ o. rw (o, span-refers offset bytes s o) (all-in-order (referencesOf (Span offset bytes)) s))
 apply-in-order Restart s = ap (λ o. o .result) (apply-is Restart s refl)
 apply-in-order (Setup b) s = ap (λ o. o .result) (apply-is (Setup b) s refl)
 
@@ -269,11 +269,11 @@ all-alike (x ∷ xs) s t a =
     (going-alike (referOf x s .result) l k (referAll xs l) (referAll xs k) (refer-leaves s t a x) (all-alike xs l k (refer-leaves s t a x)))
 
 apply-alike : (e : Event) (s t : Tracker) → Agree s t → BothAlike (applyOf e s) (applyOf e t)
-unfolding applyOf spanOf
+unfolding applyOf
 apply-alike (Location x) s t a = all-alike (x ∷ []) s t a
 apply-alike (Span offset bytes) s t a = cases (overrun offset bytes)
-    (λ o. rw o (refl, a))
-    (λ o. rw o (all-alike (referencesOf (Span offset bytes)) s t a))
+    (λ o. rw (span-overrun offset bytes s o, span-overrun offset bytes t o) (refl, a))
+    (λ o. rw (span-refers offset bytes s o, span-refers offset bytes t o) (all-alike (referencesOf (Span offset bytes)) s t a))
 apply-alike Restart s t a = one-alike s t a Restart refl (restart-order s t a) (fresh-alike s t a _ _ (same-settings s t a))
 apply-alike (Setup b) s t a = one-alike s t a (Setup b) refl (setup-order s t a (settingsOf b)) (fresh-alike s t a _ _ refl)
 

@@ -19,7 +19,7 @@ use Rattle.rules.specs.Calls.{stepOf, referOf, referAll, spanOf, applyOf}
 use Rattle.rules.specs.History.{Reference}
 use Rattle.rules.proofs.Tests.{cases, clash}
 use Rattle.rules.proofs.Calls.{refer-accept, refer-accepted, refer-either, counted-references}
-use Rattle.rules.proofs.Spans.{rising-length, rising-at, blocks-all, blocks-only, all-on, all-refused, all-none}
+use Rattle.rules.proofs.Spans.{rising-length, rising-at, blocks-all, blocks-only, all-on, all-refused, all-none, span-overrun, span-refers}
 use Rattle.demands.specs.Runs.{Run, refer, onto}
 use Rattle.demands.specs.Spans.{Expansion, Expanded, Made, none, more, Ends, all, next, overrun as overrun-first, OneByOne, EventsOneByOne}
 
@@ -110,9 +110,8 @@ refer-all (x ∷ xs) s = refer-either x s
 -- ---- an event
 
 span-one-by-one : (offset bytes : ℕ) (s : Tracker) → OneByOne (overrun offset bytes) (referencesOf (Span offset bytes)) s (spanOf offset bytes s)
-unfolding spanOf
 span-one-by-one offset bytes s = cases (overrun offset bytes)
-    (λ o. rw o (record {
+    (λ o. rw (o, span-overrun offset bytes s o) (record {
       made = [];
       rest = referencesOf (Span offset bytes);
       are = refl;
@@ -121,7 +120,7 @@ span-one-by-one offset bytes s = cases (overrun offset bytes)
       continued = λ past run. run;
       ends = overrun-first;
     }))
-    (λ o. rw o (refer-all (referencesOf (Span offset bytes)) s))
+    (λ o. rw (o, span-refers offset bytes s o) (refer-all (referencesOf (Span offset bytes)) s))
 
 pub events-one-by-one : EventsOneByOne
 unfolding applyOf

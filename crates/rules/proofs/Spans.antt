@@ -9,12 +9,13 @@ use lib.Dec.{eqb, ltb}
 use lib.ListN.{length, getD}
 use borrow.Author.Tests.{eqb-true, eqb-false, ltb-true, ltb-false, ne-eqb}
 use Rattle.rules.specs.Lists.{has}
+use Rattle.rules.specs.declared.Event.the-variants.{Span}
 use Rattle.rules.specs.Reference.{Reply}
 use Rattle.rules.specs.Answers.{refused, gives}
 use Rattle.rules.specs.Order.{Outcome, outcome}
-use Rattle.rules.specs.Events.{blockBytes, blockOf, lastByte, rising, blocksIn, overrun}
+use Rattle.rules.specs.Events.{blockBytes, blockOf, lastByte, rising, blocksIn, referencesOf, overrun}
 use Rattle.rules.specs.Layout.{Tracker}
-use Rattle.rules.specs.Calls.{referOf, goingOn, referAll}
+use Rattle.rules.specs.Calls.{referOf, goingOn, referAll, spanOf}
 use Rattle.rules.proofs.Tests.{cases, clash}
 
 -- ---- rising numbers
@@ -135,3 +136,14 @@ module _ {from n : ℕ} {before : Tracker} {i : ℕ} {s : Tracker} (w : Going fr
 
   pub goes-whole : n ≤ i → referAll (rising from n) before ≡ outcome (gives tt) s
   goes-whole h = let q : n - i ≡ 0 = omega arith in w .is ∙ rw q (all-none s)
+
+-- ---- a span: 10 before any reference, or its references
+
+module _ (offset bytes : ℕ) (s : Tracker) where
+  pub span-overrun : overrun offset bytes ≡ true → spanOf offset bytes s ≡ outcome (refused 10) s
+  unfolding spanOf
+  span-overrun o = rw o
+
+  pub span-refers : overrun offset bytes ≡ false → spanOf offset bytes s ≡ referAll (referencesOf (Span offset bytes)) s
+  unfolding spanOf
+  span-refers o = rw o
