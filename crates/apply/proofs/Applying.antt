@@ -4,6 +4,9 @@ use Prim.Native.Nat.{ℕ, _+_, _<_, _≤_, _^_}
 use mathlib.Core.Path.{_≡_, refl, sym, ap, _∙_}
 use mathlib.Core.Bool.{Bool, true, false}
 use mathlib.Core.List.{List, [], _∷_}
+use mathlib.Core.Option.{Option, some}
+use lib.Dec.{eqb}
+use borrow.Author.Tests.{eqb-true}
 use native.Mathlib.Omega.{arith}
 use Rattle.rules.specs.declared.Record.{Record}
 use Rattle.rules.specs.declared.Settings.{Settings}
@@ -24,14 +27,14 @@ use Rattle.rules.specs.Answers.{refused, gives, number, replyResult, takenResul
 use Rattle.rules.specs.Order.{Outcome, outcome}
 use Rattle.rules.specs.Events.{Fits, blockOf, rising, blocksIn, overrun}
 use Rattle.rules.specs.Layout.{Tracker, tracker, tablesOf}
-use Rattle.rules.specs.Calls.{setupOf, restartOf, referOf, startedOver, referAll, applyOf}
+use Rattle.rules.specs.Calls.{setupOf, restartOf, referOf, startedOver, goingOn, referAll, applyOf}
 use Rattle.rules.proofs.Tests.{cases, clash}
-use Rattle.rules.proofs.Answers.{refused-same}
-use Rattle.rules.proofs.Order.{not-both}
-use Rattle.rules.proofs.Spans.{blocks-fit, Going, goes-on, goes-refused, span-overrun, span-refers}
+use Rattle.rules.proofs.Spans.{blocks-fit, all-on, all-none, span-overrun, span-refers}
+use Rattle.refer.specs.Refer.{skipOf}
+use Rattle.refer.proofs.OneReference.{skip-is, not-none}
 use Rattle.apply.specs.declared.Call.{Call}
 use Rattle.apply.specs.declared.Call.the-variants as call
-use Rattle.apply.specs.EventCall.{callOf, startedOn, takenOf}
+use Rattle.apply.specs.EventCall.{callOf, skipCall, skipEvent, startedOn, takenOf, takenFrom}
 
 -- what an applied event answers and leaves
 abbrev outcomeOf : Applied → (ls cs ts : List ℕ) → Outcome (Unit {0}) Tracker
@@ -54,28 +57,45 @@ done-is (event.Span offset bytes) s = cases (overrun offset bytes)
 done-is event.Restart s = refl
 done-is (event.Setup b) s = refl
 
--- ---- one reference of many, by its answer
+-- ---- one reference
 
-reply-of : (a : Answer) → takenOf a ≡ taken.Whole → (reply : Reply) × (replyResult a ≡ gives reply)
-reply-of answer.Skipped t = (skipped, refl)
-reply-of (answer.Again d) t = (again d, refl)
-reply-of answer.First t = (first, refl)
-reply-of (answer.Refused why) t = absurd (not-both refl (ap takenResult t))
+-- by its answer
+pub one-reference : (x : ℕ) (s : Tracker) (r : Referred) (ls cs ts : List ℕ)
+    → outcome (replyResult (r .answer)) (tracker (r .kept) ls cs ts) ≡ referOf x s
+    → outcomeOf (takenFrom r) ls cs ts ≡ referAll (x ∷ []) s
+unfolding referAll
+one-reference x s r ls cs ts e = taken-is (r .answer) ∙ ap (λ o. goingOn (o .result) (o .left) (record { result = gives tt; left = o .left })) e
+  where
+    taken-is : (a : Answer)
+        → outcome (takenResult (takenOf a)) (tracker (r .kept) ls cs ts)
+        ≡ goingOn (replyResult a) (tracker (r .kept) ls cs ts) (record { result = gives tt; left = tracker (r .kept) ls cs ts })
+    taken-is answer.Skipped = refl
+    taken-is (answer.Again d) = refl
+    taken-is answer.First = refl
+    taken-is (answer.Refused w) = refl
 
-refusal-of : (a : Answer) (why : Refusal) → takenOf a ≡ taken.Refused why → replyResult a ≡ refused (number why)
-refusal-of answer.Skipped why t = absurd (not-both (ap takenResult t) refl)
-refusal-of (answer.Again d) why t = absurd (not-both (ap takenResult t) refl)
-refusal-of answer.First why t = absurd (not-both (ap takenResult t) refl)
-refusal-of (answer.Refused w) why t = ap refused (refused-same (ap takenResult t))
+-- or Skipped
+pub one-skipped : (x : ℕ) (kept : Record) (ls cs ts : List ℕ) {after : Record} → some after ≡ skipOf x (tracker kept ls cs ts)
+    → outcome (gives tt) (tracker after ls cs ts) ≡ referAll (x ∷ []) (tracker kept ls cs ts)
+one-skipped x kept ls cs ts is = sym (all-on x [] _ (sym (skip-is x kept ls cs ts is)) ∙ all-none _)
 
-module _ {from many : ℕ} {before : Tracker} {i : ℕ} {s : Tracker} (w : Going from many before i s) (some : i < many)
-    (r : Referred) (ls cs ts : List ℕ) (is : outcome (replyResult (r .answer)) (tracker (r .kept) ls cs ts) ≡ referOf (from + i) s) where
-  pub taken-goes-on : takenOf (r .answer) ≡ taken.Whole → Going from many before (i + 1) (tracker (r .kept) ls cs ts)
-  taken-goes-on t = goes-on w some (sym is ∙ ap (λ z. outcome z (tracker (r .kept) ls cs ts)) (reply-of (r .answer) t .1))
+skip-call : (a : Call) (s : Tracker) {after : Record} → some after ≡ skipCall a s
+    → outcome (gives tt) (record { kept = after; tables = s .tables }) ≡ doneOf a s
+skip-call (call.References location number) s is = cases (eqb number 1)
+    (λ z. let one : number ≡ 1 = eqb-true number 1 z in rw one (one-skipped location (s .kept) _ _ _ (rw z at is)))
+    (λ z. not-none (rw z at is))
+skip-call call.Restart s is = not-none is
+skip-call (call.Setup given) s is = not-none is
+skip-call call.Overrun s is = not-none is
 
-  pub taken-refused : (why : Refusal) → takenOf (r .answer) ≡ taken.Refused why
-      → outcome (refused (number why)) (tracker (r .kept) ls cs ts) ≡ referAll (rising from many) before
-  taken-refused why t = sym (goes-refused w some (sym is ∙ ap (λ z. outcome z (tracker (r .kept) ls cs ts)) (refusal-of (r .answer) why t)))
+-- once it is known what the event asks for
+pub skip-by : (e : Event) (s : Tracker) {a : Call} (b : Call) {o : Option Record} → a ≡ callOf e → a ≡ b → o ≡ skipCall b s → o ≡ skipEvent e s
+skip-by e s b is p q = q ∙ ap (λ z. skipCall z s) (sym p ∙ is)
+
+-- an event that is Skipped is accepted
+pub skip-event : (e : Event) (s : Tracker) {after : Record} → some after ≡ skipEvent e s
+    → outcome (gives tt) (record { kept = after; tables = s .tables }) ≡ applyOf e s
+skip-event e s is = skip-call (callOf e) s is ∙ done-is e s
 
 -- a start, over a tracker that had the record `kept`
 one-start : (kept : Record) (b : Outcome Record Tables) (r : Started) (ls cs ts : List ℕ) → outcome (startedResult r) (tablesOf ls cs ts) ≡ b

@@ -1,5 +1,7 @@
 -- What an event asks for, and its answer from the answer of that call. Assumes nothing.
 use mathlib.Core.Bool.{cond}
+use mathlib.Core.Option.{Option, none}
+use lib.Dec.{eqb}
 use Rattle.rules.specs.declared.Record.{Record}
 use Rattle.rules.specs.declared.Event.{Event}
 use Rattle.rules.specs.declared.Event.the-variants as event
@@ -12,6 +14,8 @@ use Rattle.rules.specs.declared.Referred.{Referred}
 use Rattle.rules.specs.declared.Answer.{Answer}
 use Rattle.rules.specs.declared.Answer.the-variants as answer
 use Rattle.rules.specs.Events.{settingsOf, blockOf, blocksIn, overrun}
+use Rattle.rules.specs.Layout.{Tracker}
+use Rattle.refer.specs.Refer.{skipOf}
 use Rattle.apply.specs.declared.Call.{Call}
 use Rattle.apply.specs.declared.Call.the-variants as call
 
@@ -21,6 +25,16 @@ callOf (event.Location location) = call.References location 1
 callOf (event.Span offset bytes) = cond (overrun offset bytes) call.Overrun (call.References (blockOf offset) (blocksIn offset bytes))
 callOf event.Restart = call.Restart
 callOf (event.Setup body) = call.Setup (settingsOf body)
+
+-- the record after an event that is one reference, accepted and Skipped
+abbrev pub skipCall : Call → Tracker → Option Record
+skipCall (call.References location number) s = cond (eqb number 1) (skipOf location s) none
+skipCall call.Restart s = none
+skipCall (call.Setup given) s = none
+skipCall call.Overrun s = none
+
+abbrev pub skipEvent : Event → Tracker → Option Record
+skipEvent e s = skipCall (callOf e) s
 
 -- the result of a start on a tracker with the record `kept`
 abbrev pub startedOn : Record → Started → Applied

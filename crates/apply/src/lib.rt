@@ -1,4 +1,5 @@
 // Applies one trace event to a tracker.
+use refer::Skipping;
 use rules::Answer;
 use rules::Applied;
 use rules::BLOCK_BYTES;
@@ -16,10 +17,12 @@ ghost use Rattle.rules.specs.Answers.{takenResult};
 ghost use Rattle.rules.specs.Order.{outcome};
 ghost use Prim.Native.Nat.{_+_, _^_, _≤_};
 ghost use mathlib.Core.Bool.{false};
+ghost use mathlib.Core.List.{[], _∷_};
 ghost use Rattle.rules.specs.Events.{settingsOf, rising, blocksIn, overrun};
 ghost use Rattle.rules.specs.Layout.{trackerAfter, trackerBefore};
 ghost use Rattle.rules.specs.Calls.{referAll, applyOf};
-ghost use Rattle.apply.specs.EventCall.{callOf, startedOn, takenFrom};
+ghost use Rattle.refer.specs.Refer.{skipResult};
+ghost use Rattle.apply.specs.EventCall.{callOf, skipEvent, startedOn, takenFrom};
 
 // What an event asks for.
 enum Call {
@@ -118,8 +121,29 @@ fn call_of(event: Event) -> Call
     }
 }
 
+// One reference. Most are Skipped, which `skip` finds out in few instructions. `refer` is called in this one place only, so that a program
+// in which nothing else calls it has it compiled into its loop, with the record in registers.
+fn refer_one(
+    kept: Record,
+    location: u64,
+    locations: &mut [u64],
+    counts: &mut [u64],
+    thresholds: &mut [u32],
+) -> Applied
+    ensures { λ r. ⌜ outcome (takenResult (r .answer)) (trackerAfter (r .kept) locations counts thresholds)
+        ≡ referAll (location ∷ []) (trackerBefore kept locations counts thresholds) ⌝ }
+{
+    if let Skipping::Counted(after) = refer::skip(kept, location, locations, counts, thresholds) {
+        return Applied {
+            kept: after,
+            answer: Taken::Whole,
+        };
+    }
+    taken(refer::refer(kept, location, locations, counts, thresholds))
+}
+
 // One reference to each of `number` locations from `first` on, rising, until one is refused. The locations are counted through, never
-// listed. `refer` is called in one place only, which lets the compiler keep the record in registers over many references and events.
+// listed.
 fn refer_each(
     kept: Record,
     first: u64,
@@ -135,7 +159,7 @@ fn refer_each(
     let mut i: u64 = 0;
     let mut latest = kept;
     while i < number {
-        let applied = taken(refer::refer(latest, first + i, locations, counts, thresholds));
+        let applied = refer_one(latest, first + i, locations, counts, thresholds);
         let answer = applied.answer;
         latest = applied.kept;
         if let Taken::Refused(why) = answer {
@@ -149,6 +173,30 @@ fn refer_each(
     Applied {
         kept: latest,
         answer: Taken::Whole,
+    }
+}
+
+// Whether an event is one reference, accepted and Skipped: then only the number of references rises. `apply` says the same; this is the
+// part of it that is short enough to be compiled into a loop over events.
+pub fn skip(
+    kept: Record,
+    event: Event,
+    locations: &[u64],
+    counts: &[u64],
+    thresholds: &[u32],
+) -> Skipping
+    ensures { λ r. ⌜ skipResult r ≡ skipEvent event (trackerBefore kept locations counts thresholds) ⌝ }
+{
+    match call_of(event) {
+        Call::References(location, number) => {
+            if number == 1 {
+                return refer::skip(kept, location, locations, counts, thresholds);
+            }
+            Skipping::Not
+        }
+        Call::Restart => Skipping::Not,
+        Call::Setup(_) => Skipping::Not,
+        Call::Overrun => Skipping::Not,
     }
 }
 

@@ -1,4 +1,5 @@
 // Feeds the bytes of a trace to a tracker, event by event.
+use refer::Skipping;
 use rules::Reading;
 use rules::Record;
 use rules::Refusal;
@@ -35,7 +36,8 @@ fn unreadable(why: Refusal) -> Ending
     Ending::Refused(why)
 }
 
-// Applies event after event, until the bytes end, end inside an event, or an event is refused.
+// Applies event after event, until the bytes end, end inside an event, or an event is refused. Most events are one reference that is
+// Skipped: they go round a short loop of their own, with the record in registers.
 pub fn feed(
     kept: Record,
     bytes: &[u8],
@@ -51,6 +53,17 @@ pub fn feed(
     while at < bytes.len() {
         match reading::read(&bytes[at..]) {
             Reading::Got(event, taken) => {
+                if let Skipping::Counted(after) = apply::skip(
+                    latest,
+                    event,
+                    locations,
+                    counts,
+                    thresholds,
+                ) {
+                    latest = after;
+                    at += taken;
+                    continue;
+                }
                 let applied = apply::apply(latest, event, locations, counts, thresholds);
                 let answer = applied.answer;
                 latest = applied.kept;

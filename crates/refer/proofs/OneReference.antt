@@ -190,6 +190,13 @@ skipped-done x kept ls cs ts e f g h =
     })
     ∙ sym (refer-accept x s a ∙ (λ i. record { result = gives (q i .reply); left = stored (q i) s }))
 
+abbrev isSome : Option Record → Bool
+isSome (some k) = true
+isSome none = false
+
+pub not-none : {C : Type 0} {after : Record} → some after ≡ none → C
+not-none {after = after} e = clash {b = isSome (some after)} refl (ap isSome e)
+
 -- what is skipped is what the rules skip
 pub skip-is : (x : ℕ) (kept : Record) (ls cs ts : List ℕ) {after : Record} → some after ≡ skipOf x (tracker kept ls cs ts)
     → outcome (gives skipped) (tracker after ls cs ts) ≡ referOf x (tracker kept ls cs ts)
@@ -199,12 +206,5 @@ skip-is x kept ls cs ts {after} is = cases (tornRecord kept) (λ e. not-none (rw
     (λ g. cases (under (hashFor (kept .settings)) (kept .threshold) x) (λ h. not-none (rw (e, f, g, h) at is))
     (λ h. ap (λ z. outcome (gives skipped) (tracker z ls cs ts)) (some-injective (rw (e, f, g, h) at is)) ∙ skipped-done x kept ls cs ts e f g h))))
   where
-    isSome : Option Record → Bool
-    isSome (some k) = true
-    isSome none = false
-
-    not-none : {C : Type 0} → some after ≡ none → C
-    not-none e = clash {b = isSome (some after)} refl (ap isSome e)
-
     some-injective : {a b : Record} → some a ≡ some b → a ≡ b
     some-injective e = cc

@@ -17,6 +17,8 @@ use Rattle.rules.specs.Events.{blockBytes, blockOf, lastByte, rising, bl
 use Rattle.rules.specs.Layout.{Tracker}
 use Rattle.rules.specs.Calls.{referOf, goingOn, referAll, spanOf}
 use Rattle.rules.proofs.Tests.{cases, clash}
+use Rattle.rules.proofs.Order.{not-both}
+use Rattle.rules.proofs.Calls.{refer-accept, refer-either}
 
 -- ---- rising numbers
 
@@ -110,6 +112,19 @@ pub all-none : (s : Tracker) → referAll [] s ≡ outcome (gives tt) s
 unfolding referAll
 all-none s = refl
 
+-- the same by what one reference is as a list of one
+pub one-on : (x : ℕ) (xs : List ℕ) (s : Tracker) {m : Tracker} → outcome (gives tt) m ≡ referAll (x ∷ []) s → referAll (x ∷ xs) s ≡ referAll xs m
+one-on x xs s {m} e = refer-either x s
+    (λ a. let is = refer-accept x s a in
+    all-on x xs s is ∙ ap (λ o. referAll xs (o .left)) (sym (e ∙ all-on x [] s is ∙ all-none _)))
+    (λ n is. absurd (not-both {n = n} refl (ap (λ o. o .result) (sym (e ∙ all-refused x [] s is)))))
+
+pub one-refused : (x : ℕ) (xs : List ℕ) (s : Tracker) {n : ℕ} {m : Tracker} → outcome (refused n) m ≡ referAll (x ∷ []) s
+    → referAll (x ∷ xs) s ≡ outcome (refused n) m
+one-refused x xs s {n} e = refer-either x s
+    (λ a. absurd (not-both {n = n} refl (ap (λ o. o .result) (e ∙ all-on x [] s (refer-accept x s a) ∙ all-none _))))
+    (λ k is. all-refused x xs s is ∙ sym (e ∙ all-refused x [] s is))
+
 -- i of n references to rising blocks are made, and the rest are to make
 pub record Going (from n : ℕ) (before : Tracker) (i : ℕ) (s : Tracker) : Type 0 where
   pub within : i ≤ n
@@ -127,12 +142,12 @@ module _ {from n : ℕ} {before : Tracker} {i : ℕ} {s : Tracker} (w : Going fr
       let p : from + (i + 1) ≡ suc (from + i) = omega arith in
       rw (q, p)
 
-  pub goes-on : i < n → {r : Reply} {m : Tracker} → referOf (from + i) s ≡ outcome (gives r) m → Going from n before (i + 1) m
-  goes-on h e = record { within = omega arith; is = w .is ∙ ap (λ l. referAll l s) (next h) ∙ all-on (from + i) _ s e }
+  pub goes-on : i < n → {m : Tracker} → outcome (gives tt) m ≡ referAll ((from + i) ∷ []) s → Going from n before (i + 1) m
+  goes-on h e = record { within = omega arith; is = w .is ∙ ap (λ l. referAll l s) (next h) ∙ one-on (from + i) _ s e }
 
-  pub goes-refused : i < n → {k : ℕ} {m : Tracker} → referOf (from + i) s ≡ outcome (refused k) m
-      → referAll (rising from n) before ≡ outcome (refused k) m
-  goes-refused h e = w .is ∙ ap (λ l. referAll l s) (next h) ∙ all-refused (from + i) _ s e
+  pub goes-refused : i < n → {k : ℕ} {m : Tracker} → outcome (refused k) m ≡ referAll ((from + i) ∷ []) s
+      → outcome (refused k) m ≡ referAll (rising from n) before
+  goes-refused h e = sym (w .is ∙ ap (λ l. referAll l s) (next h) ∙ one-refused (from + i) _ s e)
 
   pub goes-whole : n ≤ i → referAll (rising from n) before ≡ outcome (gives tt) s
   goes-whole h = let q : n - i ≡ 0 = omega arith in w .is ∙ rw q (all-none s)

@@ -2,11 +2,10 @@
 use borrow.Author.Needs.{needs}
 use native.Mathlib.Omega.{arith}
 use Prim.Native.Nat.{_-_}
-use mathlib.Core.Path.{_≡_, refl, sym, ap, _∙_}
+use mathlib.Core.Path.{_≡_, refl, sym}
 use lib.ListN.{length}
 use Rattle.rules.specs.Layout.{tracker}
-use Rattle.rules.proofs.Spans.{Going, going-none, goes-whole}
-use Rattle.apply.proofs.Applying.{taken-goes-on, taken-refused}
+use Rattle.rules.proofs.Spans.{Going, going-none, goes-on, goes-refused, goes-whole}
 use Rattle.apply.proofs.refer_each.Statement.{statement}
 use Rattle.apply.proofs.refer_each.Tie as tie
 
@@ -18,24 +17,18 @@ Inv-loop first number locations₀ counts₀ thresholds₀ i₀ latest₀ locati
 abbrev μ-loop : tie.MeasureT-loop
 μ-loop first number locations₀ counts₀ thresholds₀ i₀ latest₀ locations counts thresholds i latest = number - i
 
--- the places that a later one looks back to: the turn of the loop, its reference, and its answer as that to an event
-abbrev turn-of : tie.After-refer Inv-loop μ-loop → tie.In-loop Inv-loop μ-loop
+-- the turn of the loop in which a reference was made
+abbrev turn-of : tie.After-refer-one Inv-loop μ-loop → tie.In-loop Inv-loop μ-loop
 turn-of d = d .before .before .before .before
-
-abbrev refer-taken : tie.After-taken Inv-loop μ-loop → tie.After-refer Inv-loop μ-loop
-refer-taken d = d .before .before .before .before .before .before .before
 
 loop-holds : tie.Need-loop-holds Inv-loop μ-loop
 loop-holds c = (refl, refl, refl, going-none _ _ _)
 
-add-refer : tie.Need-add-refer Inv-loop μ-loop
-add-refer c = omega (arith, c .loop-test, c .before .before .before .before .before .pre)
+add-refer-one : tie.Need-add-refer-one Inv-loop μ-loop
+add-refer-one c = omega (arith, c .loop-test, c .before .before .before .before .before .pre)
 
-refer-requires : tie.Need-refer-requires Inv-loop μ-loop
-refer-requires c κs = search needs
-
-taken-requires : tie.Need-taken-requires Inv-loop μ-loop
-taken-requires c κs = search needs
+refer-one-requires : tie.Need-refer-one-requires Inv-loop μ-loop
+refer-one-requires c κs = search needs
 
 enum-known-answer : tie.Need-enum-known-answer Inv-loop μ-loop
 enum-known-answer c = search needs
@@ -51,33 +44,27 @@ same-length-3 c = search needs
 
 returns : tie.Need-returns Inv-loop μ-loop
 returns c =
-    let t = c .before .before .before .before in
-    let d = refer-taken t in
+    let d = c .before .before .before .before .before .before .before .before .before .before in
     let turn = turn-of d in
-    rw (t .taken .ensures)
-    (taken-refused (turn .before .loop .inv .3) (omega (arith, turn .loop-test)) (d .refer .result) _ _ _ (d .refer .ensures) _
-    (sym (ap (λ z. z .answer) (t .taken .ensures)) ∙ c .before .answer .given .1))
+    goes-refused (turn .before .loop .inv .3) (omega (arith, turn .loop-test)) (rw (c .before .answer .given .1) at (d .refer-one .ensures))
 
 enum-told : tie.Need-enum-told Inv-loop μ-loop
 enum-told c = search needs
 
 add-i : tie.Need-add-i Inv-loop μ-loop
-add-i c = let turn = turn-of (refer-taken (c .before .before .before)) in omega (arith, turn .loop-test, turn .before .before .before .before .before .good)
+add-i c = let turn = turn-of (c .before .before .before .before .before .before .before .before .before) in omega (arith, turn .loop-test, turn .before .before .before .before .before .good)
 
 loop-less : tie.Need-loop-less Inv-loop μ-loop
 loop-less c = search needs
 
 loop-again : tie.Need-loop-again Inv-loop μ-loop
 loop-again c =
-    let t = c .before .before .before in
-    let d = refer-taken t in
+    let d = c .before .before .before .before .before .before .before .before .before in
     let turn = turn-of d in (
       search needs,
       search needs,
       search needs,
-      rw (t .taken .ensures)
-          (taken-goes-on (turn .before .loop .inv .3) (omega (arith, turn .loop-test)) (d .refer .result) _ _ _ (d .refer .ensures)
-          (sym (ap (λ z. z .answer) (t .taken .ensures)) ∙ c .enum-told .given .1)),
+      goes-on (turn .before .loop .inv .3) (omega (arith, turn .loop-test)) (rw (c .enum-told .given .1) at (d .refer-one .ensures)),
     )
 
 same-length-4 : tie.Need-same-length-4 Inv-loop μ-loop
@@ -99,9 +86,8 @@ refer-each-spec =
     Inv-loop
     μ-loop
     loop-holds
-    add-refer
-    refer-requires
-    taken-requires
+    add-refer-one
+    refer-one-requires
     enum-known-answer
     same-length
     same-length-2

@@ -11,20 +11,22 @@ use Rattle.rules.specs.Answers.{gives, Got, readingResult}
 use Rattle.rules.specs.Events.{readOf}
 use Rattle.rules.specs.Layout.{tracker}
 use Rattle.rules.proofs.Tables.{from-place}
+use Rattle.refer.specs.Refer.{skipResult}
+use Rattle.apply.proofs.Applying.{skip-event}
 use Rattle.feed.proofs.Loop.{Going, going-none, at-end, at-unread, ahead, at-refused, goes-on}
 use Rattle.feed.proofs.feed.Statement.{statement}
 use Rattle.feed.proofs.feed.Tie as tie
 
 abbrev Inv-loop : tie.InvT-loop
-Inv-loop bytes locations₀ counts₀ thresholds₀ at₀ kept₀ locations counts thresholds at kept =
+Inv-loop bytes locations₀ counts₀ thresholds₀ at₀ latest₀ locations counts thresholds at latest =
     (length locations ≡ length locations₀) × (length counts ≡ length counts₀) × (length thresholds ≡ length thresholds₀)
-    × Going bytes (tracker kept₀ locations₀ counts₀ thresholds₀) at (tracker kept locations counts thresholds)
+    × Going bytes (tracker latest₀ locations₀ counts₀ thresholds₀) at (tracker latest locations counts thresholds)
 
 abbrev μ-loop : tie.MeasureT-loop
-μ-loop bytes locations₀ counts₀ thresholds₀ at₀ kept₀ locations counts thresholds at kept =
+μ-loop bytes locations₀ counts₀ thresholds₀ at₀ latest₀ locations counts thresholds at latest =
     length bytes - at
 
--- the places that a later one looks back to: the turn of the loop, where its event was read, and where that event was applied
+-- the places that a later one looks back to: the turn of the loop, where its event was read, and where that event was skipped or applied
 abbrev known-bytes : tie.At-loop Inv-loop μ-loop → tie.After-shared-slice-known Inv-loop μ-loop
 known-bytes turn = turn .before .before .before .before
 
@@ -32,9 +34,12 @@ abbrev turn-of : tie.After-read Inv-loop μ-loop → tie.At-loop Inv-loop μ-loo
 turn-of d = d .before .before .before
 
 abbrev event-applied : tie.After-apply Inv-loop μ-loop → tie.After-event Inv-loop μ-loop
-event-applied d = d .before .before .before .before .before
+event-applied d = d .before .before .before .before .before .before .before .before .before .before .before
 
-abbrev apply-taken : tie.After-enum-told Inv-loop μ-loop → tie.After-apply Inv-loop μ-loop
+abbrev event-skipped : tie.After-skip Inv-loop μ-loop → tie.After-event Inv-loop μ-loop
+event-skipped d = d .before .before .before .before .before
+
+abbrev apply-taken : tie.After-enum-told2 Inv-loop μ-loop → tie.After-apply Inv-loop μ-loop
 apply-taken c = c .before .before .before .before .before .before .before .before .before
 
 -- the bytes from this turn's place on
@@ -78,6 +83,33 @@ read-requires c κs = search needs
 enum-known-event : tie.Need-enum-known-event Inv-loop μ-loop
 enum-known-event c = search needs
 
+skip-requires : tie.Need-skip-requires Inv-loop μ-loop
+skip-requires c κs = search needs
+
+enum-known-after : tie.Need-enum-known-after Inv-loop μ-loop
+enum-known-after c = search needs
+
+add-at : tie.Need-add-at Inv-loop μ-loop
+add-at c = let d = event-skipped (c .before .before .before) in omega (arith, known-bytes (turn d), on d)
+
+loop-less : tie.Need-loop-less Inv-loop μ-loop
+loop-less c = omega (arith, on (event-skipped (c .before .before .before)))
+
+loop-again : tie.Need-loop-again Inv-loop μ-loop
+loop-again c =
+    let skipped = c .before .before .before in
+    let d = event-skipped skipped in
+    let some = d .before .before .before .before .loop-test in (
+      turn d .loop .inv .0,
+      turn d .loop .inv .1,
+      turn d .loop .inv .2,
+      goes-on (turn d .loop .inv .3) (omega (arith, some)) (got d) (found-event d) _
+          (skip-event (got d .event) _ (sym (ap skipResult (c .before .after .given .1)) ∙ skipped .skip .ensures)),
+    )
+
+enum-told : tie.Need-enum-told Inv-loop μ-loop
+enum-told c = search needs
+
 apply-requires : tie.Need-apply-requires Inv-loop μ-loop
 apply-requires c κs = search needs
 
@@ -85,13 +117,13 @@ enum-known-answer : tie.Need-enum-known-answer Inv-loop μ-loop
 enum-known-answer c = search needs
 
 same-length : tie.Need-same-length Inv-loop μ-loop
-same-length c = search needs
+same-length c = let done = c .before .before .before .before .before .before .before .before .before .before in search (needs, done .apply, turn (event-applied done) .loop .inv)
 
 same-length-2 : tie.Need-same-length-2 Inv-loop μ-loop
-same-length-2 c = search needs
+same-length-2 c = let done = c .before .before .before .before .before .before .before .before .before .before in search (needs, done .apply, turn (event-applied done) .loop .inv)
 
 same-length-3 : tie.Need-same-length-3 Inv-loop μ-loop
-same-length-3 c = search needs
+same-length-3 c = let done = c .before .before .before .before .before .before .before .before .before .before in search (needs, done .apply, turn (event-applied done) .loop .inv)
 
 returns : tie.Need-returns Inv-loop μ-loop
 returns c =
@@ -99,24 +131,24 @@ returns c =
     let d = event-applied done in
     at-refused (turn d .loop .inv .3) (search needs) (got d) (found-event d) _ _ (rw (c .before .answer .given .1) at (done .apply .ensures))
 
-enum-told : tie.Need-enum-told Inv-loop μ-loop
-enum-told c = search needs
+enum-told-2 : tie.Need-enum-told-2 Inv-loop μ-loop
+enum-told-2 c = search needs
 
-add-at : tie.Need-add-at Inv-loop μ-loop
-add-at c = let d = event-applied (apply-taken c) in omega (arith, known-bytes (turn d), on d)
+add-at-2 : tie.Need-add-at-2 Inv-loop μ-loop
+add-at-2 c = let d = event-applied (apply-taken c) in omega (arith, known-bytes (turn d), on d)
 
-loop-less : tie.Need-loop-less Inv-loop μ-loop
-loop-less c = omega (arith, on (event-applied (apply-taken c)))
+loop-less-2 : tie.Need-loop-less-2 Inv-loop μ-loop
+loop-less-2 c = omega (arith, on (event-applied (apply-taken c)))
 
-loop-again : tie.Need-loop-again Inv-loop μ-loop
-loop-again c =
+loop-again-2 : tie.Need-loop-again-2 Inv-loop μ-loop
+loop-again-2 c =
     let done = c .before .before .before .before .before .before .before .before .before in
     let d = event-applied done in
     let some = d .before .before .before .before .loop-test in (
       search needs,
       search needs,
       search needs,
-      goes-on (turn d .loop .inv .3) (omega (arith, some)) (got d) (found-event d) _ (rw (c .enum-told .given .1) at (done .apply .ensures)),
+      goes-on (turn d .loop .inv .3) (omega (arith, some)) (got d) (found-event d) _ (rw (c .enum-told2 .given .1) at (done .apply .ensures)),
     )
 
 enum-known-why : tie.Need-enum-known-why Inv-loop μ-loop
@@ -164,16 +196,22 @@ feed-spec =
     part-read-end
     read-requires
     enum-known-event
+    skip-requires
+    enum-known-after
+    add-at
+    loop-less
+    loop-again
+    enum-told
     apply-requires
     enum-known-answer
     same-length
     same-length-2
     same-length-3
     returns
-    enum-told
-    add-at
-    loop-less
-    loop-again
+    enum-told-2
+    add-at-2
+    loop-less-2
+    loop-again-2
     enum-known-why
     unreadable-requires
     same-length-4
