@@ -2,7 +2,7 @@
 -- what that part left. By induction on the list. Assumes nothing.
 use Prim.Native.Nat.{ℕ, _+_, _^_, _≤_, _<_}
 use mathlib.Core.Path.{_≡_, refl, sym, ap, subst, _∙_}
-use mathlib.Core.Bool.{true, false}
+use mathlib.Core.Bool.{true, false, cond}
 use mathlib.Core.List.{List, [], _∷_, _++_}
 use native.Mathlib.Omega.{arith}
 use lib.Dec.{eqb}
@@ -11,17 +11,19 @@ use borrow.Author.Tests.{eqb-false}
 use Rattle.rules.specs.declared.Event.{Event}
 use Rattle.rules.specs.declared.Event.the-variants.{Location, Span, Restart, Setup}
 use Rattle.rules.specs.Reference.{Reply}
-use Rattle.rules.specs.Answers.{gives}
+use Rattle.rules.specs.Answers.{refused, gives}
 use Rattle.rules.specs.Order.{Outcome, outcome}
 use Rattle.rules.specs.Events.{blockOf, blocksIn, referencesOf, freshStart, overrun, overruns}
 use Rattle.rules.specs.Layout.{Tracker, stored}
+use Rattle.rules.specs.Conditions.{tooShort, tornRecord, tornFor, full}
 use Rattle.rules.specs.Calls.{stepOf, referOf, referAll, spanOf, applyOf}
 use Rattle.rules.specs.History.{Reference}
 use Rattle.rules.proofs.Tests.{cases, clash}
-use Rattle.rules.proofs.Calls.{refer-accept, refer-accepted, refer-either, counted-references}
+use Rattle.rules.proofs.Calls.{refer-full, refer-bucket, refer-accept, refer-accepted, refer-either, counted-references, left-whole, left-long}
 use Rattle.rules.proofs.Spans.{rising-length, rising-at, blocks-all, blocks-only, all-on, all-refused, all-none, span-overrun, span-refers}
 use Rattle.demands.specs.Runs.{Run, refer, onto}
 use Rattle.demands.specs.Spans.{Expansion, Expanded, Made, none, more, Ends, all, next, overrun as overrun-first, OneByOne, EventsOneByOne}
+use Rattle.demands.specs.Spans.{OnlyInside}
 
 -- ---- which blocks
 
@@ -128,3 +130,22 @@ events-one-by-one (Location x) s f = refer-all (x ∷ []) s
 events-one-by-one (Span offset bytes) s f = span-one-by-one offset bytes s
 events-one-by-one Restart s f = clash refl f
 events-one-by-one (Setup b) s f = clash refl f
+
+-- ---- inside an event
+
+-- where neither the record nor a table refuses
+inside : (y : Reference) (s : Tracker) → tornRecord (s .kept) ≡ false → tooShort (s .kept .settings) (s .tables) ≡ false
+    → referOf y s ≡ cond (full (s .kept .numbers)) (outcome (refused 4) s)
+    (cond (tornFor y s) (outcome (refused 3) s) (outcome (gives (stepOf y s .reply)) (stored (stepOf y s) s)))
+inside y s e f = cases (full (s .kept .numbers))
+    (λ g. refer-full y s e f g ∙ rw g)
+    (λ g. cases (tornFor y s)
+    (λ h. refer-bucket y s e f g h ∙ rw (g, h))
+    (λ h. refer-accept y s (record { record-whole = e; tables-long = f; room = g; bucket-sound = h }) ∙ rw (g, h)))
+
+pub only-inside : OnlyInside
+only-inside x y s after r e =
+    let a = refer-accepted x s r (ap (λ o. o .result) e) in
+    subst (λ z. referOf y z ≡ cond (full (z .kept .numbers)) (outcome (refused 4) z)
+    (cond (tornFor y z) (outcome (refused 3) z) (outcome (gives (stepOf y z .reply)) (stored (stepOf y z) z))))
+    (sym (left-is x s e)) (inside y (stored (stepOf x s) s) (left-whole x s a) (left-long x s a))

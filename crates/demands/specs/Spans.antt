@@ -1,7 +1,7 @@
 -- Document 02, "I/O that spans blocks": which blocks those are, and demand 1 of each of an event's references. Assumes nothing.
 use Prim.Native.Nat.{ℕ, _+_, _^_, _≤_, _<_}
 use mathlib.Core.Path.{_≡_}
-use mathlib.Core.Bool.{Bool, true, false}
+use mathlib.Core.Bool.{Bool, true, false, cond}
 use mathlib.Core.List.{List, [], _∷_, _++_}
 use lib.ListN.{length, getD}
 use Rattle.rules.specs.declared.Event.{Event}
@@ -11,8 +11,9 @@ use Rattle.rules.specs.Reference.{Reply}
 use Rattle.rules.specs.Answers.{refused, gives}
 use Rattle.rules.specs.Order.{Outcome, outcome}
 use Rattle.rules.specs.Events.{blockOf, referencesOf, freshStart, overruns}
-use Rattle.rules.specs.Layout.{Tracker}
-use Rattle.rules.specs.Calls.{referOf, applyOf}
+use Rattle.rules.specs.Layout.{Tracker, stored}
+use Rattle.rules.specs.Conditions.{tornFor, full}
+use Rattle.rules.specs.Calls.{stepOf, referOf, applyOf}
 use Rattle.rules.specs.History.{Reference}
 use Rattle.demands.specs.Runs.{Run, onto}
 
@@ -66,3 +67,9 @@ pub record OneByOne (overruns : Bool) (references : List Reference) (before : Tr
 -- any event but a fresh start
 abbrev pub EventsOneByOne : Type 0
 EventsOneByOne = (e : Event) (s : Tracker) → freshStart e ≡ false → OneByOne (overruns e) (referencesOf e) s (applyOf e s)
+
+-- after an accepted reference, the next is refused only 4, or 3 for the bucket that it would record in
+abbrev pub OnlyInside : Type 0
+OnlyInside = (x y : Reference) (s after : Tracker) (r : Reply) → referOf x s ≡ outcome (gives r) after
+    → referOf y after ≡ cond (full (after .kept .numbers)) (outcome (refused 4) after)
+    (cond (tornFor y after) (outcome (refused 3) after) (outcome (gives (stepOf y after .reply)) (stored (stepOf y after) after)))

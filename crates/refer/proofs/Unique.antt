@@ -29,6 +29,12 @@ once o r r' ls cs ts ls' cs' ts' p q =
     let e = each-same (ap (λ z. z .left .tables) same) in
     ((λ i. record { kept = same i .left .kept; answer = a i }), e .0, e .1, e .2)
 
+pub skip-injective : (a b : Skipping) → skipResult a ≡ skipResult b → a ≡ b
+skip-injective (skipping.Counted j) (skipping.Counted k) e = ap skipping.Counted (cc)
+skip-injective skipping.Not skipping.Not e = refl
+skip-injective (skipping.Counted j) skipping.Not e = cc
+skip-injective skipping.Not (skipping.Counted k) e = cc
+
 module _ (location : ℕ) (kept : Record) (locations counts thresholds : List ℕ) where
   pub refer-once : Once (referOf location (tracker kept locations counts thresholds))
   refer-once = once _
@@ -36,9 +42,3 @@ module _ (location : ℕ) (kept : Record) (locations counts thresholds : List �
   pub skip-once : (r r' : Skipping) → skipResult r ≡ skipOf location (tracker kept locations counts thresholds)
       → skipResult r' ≡ skipOf location (tracker kept locations counts thresholds) → r ≡ r'
   skip-once r r' p q = skip-injective r r' (p ∙ sym q)
-    where
-      skip-injective : (a b : Skipping) → skipResult a ≡ skipResult b → a ≡ b
-      skip-injective (skipping.Counted j) (skipping.Counted k) e = ap skipping.Counted (cc)
-      skip-injective skipping.Not skipping.Not e = refl
-      skip-injective (skipping.Counted j) skipping.Not e = cc
-      skip-injective skipping.Not (skipping.Counted k) e = cc
