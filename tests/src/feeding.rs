@@ -9,7 +9,7 @@ use crate::lru;
 use crate::model::*;
 use crate::random::Random;
 use crate::tally::Tally;
-use crate::trackers::{damaged_tracker, some_tracker};
+use crate::trackers::{damaged_tracker, some_tracker, torn_tracker};
 
 /// How feeding must have ended, each at least once.
 pub const WANTED: &[(&str, &[&str])] = &[(
@@ -154,8 +154,9 @@ fn each_block(driver: &mut Driver, offset: u64, length: u32) -> u64 {
 
 /// Feeds a trace at once, then in the other ways to the same tracker. Event by event, too few words would be judged otherwise.
 fn one_trace(model: &Model, random: &mut Random, tally: &mut Tally) -> Result<(), String> {
-    let before = match random.below(2) {
+    let before = match random.below(3) {
         0 => some_tracker(random),
+        1 => torn_tracker(random),
         _ => damaged_tracker(random),
     };
     let bytes = some_trace(random, &before, 30);

@@ -203,6 +203,13 @@ fn damage_bucket(random: &mut Random, tracker: &mut Tracker) {
     }
 }
 
+/// A tracker with a bucket that is often torn, and nothing else wrong.
+pub fn torn_tracker(random: &mut Random) -> Tracker {
+    let mut tracker = some_tracker(random);
+    damage_bucket(random, &mut tracker);
+    tracker
+}
+
 pub fn damaged_tracker(random: &mut Random) -> Tracker {
     let mut tracker = some_tracker(random);
     if random.one_in(12) {
