@@ -1,8 +1,7 @@
 -- One trace event, by what it asks for: an event is that call (`done-is`, by its kind), and what the call answers, taken over, is what the rules
 -- say, by the cases of the answer. Assumes nothing.
 use Prim.Native.Nat.{ℕ, _+_, _<_, _≤_, _^_}
-use mathlib.Core.Path.{_≡_, refl, sym, ap, _∙_}
-use mathlib.Core.Bool.{Bool, true, false}
+use mathlib.Core.Path.{_≡_, refl, sym, ap, subst, _∙_}
 use mathlib.Core.List.{List, [], _∷_}
 use mathlib.Core.Option.{Option, some}
 use lib.Dec.{eqb}
@@ -28,7 +27,7 @@ use Rattle.rules.specs.Order.{Outcome, outcome}
 use Rattle.rules.specs.Events.{Fits, blockOf, rising, blocksIn, overrun}
 use Rattle.rules.specs.Layout.{Tracker, tracker, tablesOf}
 use Rattle.rules.specs.Calls.{setupOf, restartOf, referOf, startedOver, goingOn, referAll, applyOf}
-use Rattle.rules.proofs.Tests.{cases, clash}
+use Rattle.rules.proofs.Tests.{cases}
 use Rattle.rules.proofs.Spans.{blocks-fit, all-on, all-none, span-overrun, span-refers}
 use Rattle.refer.specs.Refer.{skipOf}
 use Rattle.refer.proofs.OneReference.{skip-is, not-none}
@@ -132,34 +131,20 @@ module _ (e : Event) (s : Tracker) (a : Call) (is : a ≡ callOf e) where
 
 -- ---- the locations fit 64 bits
 
-abbrev firstOf : Call → ℕ
-firstOf (call.References from many) = from
-firstOf call.Restart = 0
-firstOf (call.Setup given) = 0
-firstOf call.Overrun = 0
+-- the first of them and how many, none being asked for otherwise
+abbrev askedOf : Call → ℕ × ℕ
+askedOf (call.References from many) = (from, many)
+askedOf call.Restart = (0, 0)
+askedOf (call.Setup given) = (0, 0)
+askedOf call.Overrun = (0, 0)
 
-abbrev references : Call → Bool
-references (call.References from many) = true
-references call.Restart = false
-references (call.Setup given) = false
-references call.Overrun = false
-
-no-references : {a : Call} {from many : ℕ} → a ≡ call.References from many → references a ≡ false → ⊥
-no-references e f = clash (ap references e) f
-
-abbrev manyOf : Call → ℕ
-manyOf (call.References from many) = many
-manyOf call.Restart = 0
-manyOf (call.Setup given) = 0
-manyOf call.Overrun = 0
+fits-by : (a : Call) (from many : ℕ) → a ≡ call.References from many → askedOf a .0 + askedOf a .1 ≤ 2 ^ 64 → from + many ≤ 2 ^ 64
+fits-by a from many is h = subst (λ z. askedOf z .0 + askedOf z .1 ≤ 2 ^ 64) is h
 
 pub call-fits : (e : Event) (from many : ℕ) → Fits e → callOf e ≡ call.References from many → from + many ≤ 2 ^ 64
-call-fits (event.Location x) from many f is = let p : x ≡ from = ap firstOf is in let q : 1 ≡ many = ap manyOf is in omega arith
-call-fits (event.Span offset bytes) from many f is = cases (overrun offset bytes)
-    (λ o. absurd (no-references (rw o at is) refl))
-    (λ o. let z : call.References (blockOf offset) (blocksIn offset bytes) ≡ call.References from many = rw o at is in
-    let p : blockOf offset ≡ from = ap firstOf z in
-    let q : blocksIn offset bytes ≡ many = ap manyOf z in
-    omega (arith, blocks-fit offset bytes (f .0) o))
-call-fits event.Restart from many f is = absurd (no-references is refl)
-call-fits (event.Setup b) from many f is = absurd (no-references is refl)
+call-fits (event.Location x) from many f is = fits-by _ from many is (omega arith)
+call-fits (event.Span offset bytes) from many f is = fits-by _ from many is (cases (overrun offset bytes)
+    (λ o. rw o (omega arith))
+    (λ o. rw o (omega (arith, blocks-fit offset bytes (f .0) o))))
+call-fits event.Restart from many f is = fits-by _ from many is (omega arith)
+call-fits (event.Setup b) from many f is = fits-by _ from many is (omega arith)

@@ -68,9 +68,9 @@ pub record Returned (A S : Type 0) : Type 0 where
 abbrev pub returned : {A S : Type 0} → A → S → Returned A S
 returned value left = record { value = value; left = left }
 
--- a call that is accepted stores its record; one that is refused stores nothing
-abbrev pub storedIf : (accepted : Bool) → Record → List ℕ → List ℕ
-storedIf accepted kept w = cond accepted (put kept w) w
+-- a call that changed the record stores it; one that did not stores nothing
+abbrev pub storedIf : (changed : Bool) → Record → List ℕ → List ℕ
+storedIf changed kept w = cond changed (put kept w) w
 
 -- a start, that has a record only where it is accepted
 abbrev pub storedStart : Result Record → List ℕ → Returned ℕ (List ℕ)

@@ -141,11 +141,11 @@ fn put(words: &mut [u64], kept: Record)
     }
 }
 
-// Stores the record that a call leaves; a call that is refused stores nothing.
-pub fn store_if(words: &mut [u64], accepted: bool, kept: Record)
-    ensures { λ _. ⌜ now (words .exit) ≡ storedIf accepted kept (now (words .entry)) ⌝ }
+// Stores the record that a call leaves; a call that did not change it stores nothing.
+pub fn store_if(words: &mut [u64], changed: bool, kept: Record)
+    ensures { λ _. ⌜ now (words .exit) ≡ storedIf changed kept (now (words .entry)) ⌝ }
 {
-    if accepted {
+    if changed {
         put(words, kept);
     }
 }

@@ -1,31 +1,18 @@
--- The numbers of an event that a program holds fit their types, so what is written is read back. Assumes nothing.
+-- What is written is read back. Assumes nothing.
 use Prim.Native.Nat.{ℕ}
 use mathlib.Core.Path.{_≡_, _∙_}
 use mathlib.Core.List.{List, [], _∷_, _++_}
-use native.Mathlib.Omega.{arith}
 use lib.ListN.{take, drop, take-append-drop}
-use denote.Laws.{Is}
-use denote.Enum.Declared.{row}
-use denote.Enum.Laws.{val, owed}
 use Rattle.rules.specs.declared.Event.{Event}
-use Rattle.rules.specs.declared.Event.the-variants.{Location, Span, Restart, Setup}
 use Rattle.rules.specs.declared.Reading.the-variants as reading
 use Rattle.rules.specs.declared.Written.the-variants as written
 use Rattle.rules.specs.Answers.{gives}
 use Rattle.rules.specs.Events.{eventBytes, Fits, readOf}
-use Rattle.rules.proofs.Event.{the-type}
-use Rattle.rules.proofs.Event.Laws.{the-laws}
 use Rattle.rules.proofs.Answers.{reading-injective}
 use Rattle.rules.proofs.Events.{write-filled}
 use Rattle.rules.proofs.Tables.{over-front}
 use Rattle.rules.proofs.Round.{round}
 use Rattle.writing.specs.ReadBack.{WritePromise, WrittenIsRead}
-
-pub held-fits : (e : Event) → Is (row the-type) e (val the-type the-laws e ∷ []) → Fits e
-held-fits (Location x) held = omega (arith, owed the-type the-laws (Location x) _ held)
-held-fits (Span offset bytes) held = omega (arith, owed the-type the-laws (Span offset bytes) _ held)
-held-fits Restart held = tt
-held-fits (Setup b) held = omega (arith, owed the-type the-laws (Setup b) _ held)
 
 -- bytes that begin with those that were filled
 pub reads-back : (e : Event) (before after : List ℕ) (n : ℕ) → WritePromise e before (written.Filled n) after

@@ -1,4 +1,4 @@
--- By whether the call was accepted.
+-- By whether the record changed.
 use borrow.Author.Needs.{needs}
 use Rattle.words.proofs.store_if.Statement.{statement}
 use Rattle.words.proofs.store_if.Tie as tie

@@ -7,7 +7,7 @@ use lib.ListN.{length}
 use denote.Ref.{now}
 use Rattle.rules.specs.Events.{eventLength, overruns}
 use Rattle.rules.proofs.Events.{write-overrun, write-short, write-done}
-use Rattle.writing.proofs.Laws.{held-fits}
+use Rattle.rules.proofs.HeldEvents.{held-fits}
 use Rattle.writing.proofs.write.Statement.{statement}
 use Rattle.writing.proofs.write.Tie as tie
 
