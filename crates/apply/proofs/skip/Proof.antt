@@ -22,7 +22,7 @@ returns c =
     let d = c .before .before .before .before .before in
     let a = d .before .before .before .before .args in
     skip-by (a .event) (tracker (a .kept) (now (a .locations)) (now (a .counts)) (now (a .thresholds))) _ (d .call-of .ensures)
-    (c .before .before .before .location .given .1) (rw (eq-eqb _ _ (c .before .if1 .taken)) (c .skip .ensures))
+    (c .before .before .before .location .given .1) (rw (eq-eqb _ 1 (c .before .if1 .taken)) (c .skip .ensures))
 
 enum-told : tie.Need-enum-told
 enum-told c = search needs
@@ -38,7 +38,7 @@ returns-2 c =
     let d = c .before .before .before .before in
     let a = d .before .before .before .before .args in
     skip-by (a .event) (tracker (a .kept) (now (a .locations)) (now (a .counts)) (now (a .thresholds))) _ (d .call-of .ensures)
-    (c .before .before .location .given .1) (rw (ne-eqb _ _ (c .if1 .left)) refl)
+    (c .before .before .location .given .1) (rw (ne-eqb _ 1 (c .if1 .left)) refl)
 
 returns-3 : tie.Need-returns-3
 returns-3 c =
