@@ -1,29 +1,29 @@
 -- Which blocks a span refers to, and that references are made one by one: all of a list, or a first part and then one that is refused, on
 -- what that part left. By induction on the list. Assumes nothing.
-use Prim.Native.Nat.{ℕ, _+_, _^_, _≤_, _<_}
+use Prim.Native.Nat.{ℕ, _+_, _-_, _^_, _≤_, _<_}
 use mathlib.Core.Path.{_≡_, refl, sym, ap, subst, _∙_}
 use mathlib.Core.Bool.{true, false, cond}
 use mathlib.Core.List.{List, [], _∷_, _++_}
 use native.Mathlib.Omega.{arith}
 use lib.Dec.{eqb}
 use lib.ListN.{length, getD}
-use borrow.Author.Tests.{eqb-false}
+use borrow.Author.Tests.{eqb-false, ltb-true}
 use Rattle.rules.specs.declared.Event.{Event}
 use Rattle.rules.specs.declared.Event.the-variants.{Location, Span, Restart, Setup}
 use Rattle.rules.specs.Reference.{Reply}
 use Rattle.rules.specs.Answers.{refused, gives}
 use Rattle.rules.specs.Order.{Outcome, outcome}
-use Rattle.rules.specs.Events.{blockOf, blocksIn, referencesOf, freshStart, overrun, overruns}
+use Rattle.rules.specs.Events.{blockOf, lastByte, blocksIn, referencesOf, freshStart, overrun, overruns}
 use Rattle.rules.specs.Layout.{Tracker, stored}
 use Rattle.rules.specs.Conditions.{tooShort, tornRecord, tornFor, full}
 use Rattle.rules.specs.Calls.{stepOf, referOf, referAll, spanOf, applyOf}
 use Rattle.rules.specs.History.{Reference}
 use Rattle.rules.proofs.Tests.{cases, clash}
 use Rattle.rules.proofs.Calls.{refer-full, refer-bucket, refer-accept, refer-accepted, refer-either, counted-references, left-whole, left-long}
-use Rattle.rules.proofs.Spans.{rising-length, rising-at, blocks-all, blocks-only, all-on, all-refused, all-none, span-overrun, span-refers}
+use Rattle.rules.proofs.Spans.{rising-length, rising-at, blocks-all, blocks-only, last-fits, all-on, all-refused, all-none, span-overrun, span-refers}
 use Rattle.demands.specs.Runs.{Run, refer, onto}
 use Rattle.demands.specs.Spans.{Expansion, Expanded, Made, none, more, Ends, all, next, overrun as overrun-first, OneByOne, EventsOneByOne}
-use Rattle.demands.specs.Spans.{OnlyInside}
+use Rattle.demands.specs.Spans.{PassesEnd, OverrunsPast, OnlyInside}
 
 -- ---- which blocks
 
@@ -47,8 +47,19 @@ module _ (offset bytes : ℕ) where
         (λ e. rw (long, e) (omega (arith, eqb-false bytes 0 e)));
   }
 
+  passes-end : PassesEnd offset bytes
+  passes-end = record {
+    past = λ o. cases (eqb bytes 0)
+        (λ e. clash o (rw e))
+        (λ e. (omega (arith, eqb-false bytes 0 e), ltb-true (2 ^ 64 - 1) (lastByte offset bytes) (rw e at o)));
+    within = λ o byte h k. omega (arith, last-fits offset bytes (λ z. omega arith) o);
+  }
+
 pub expanded : Expanded
 expanded = expansion
+
+pub overruns-past : OverrunsPast
+overruns-past = passes-end
 
 -- ---- references that were made
 

@@ -1,5 +1,5 @@
 -- Document 02, "I/O that spans blocks": which blocks those are, and demand 1 of each of an event's references. Assumes nothing.
-use Prim.Native.Nat.{ℕ, _+_, _^_, _≤_, _<_}
+use Prim.Native.Nat.{ℕ, _+_, _-_, _^_, _≤_, _<_}
 use mathlib.Core.Path.{_≡_}
 use mathlib.Core.Bool.{Bool, true, false, cond}
 use mathlib.Core.List.{List, [], _∷_, _++_}
@@ -10,7 +10,7 @@ use Rattle.rules.specs.Lists.{has}
 use Rattle.rules.specs.Reference.{Reply}
 use Rattle.rules.specs.Answers.{refused, gives}
 use Rattle.rules.specs.Order.{Outcome, outcome}
-use Rattle.rules.specs.Events.{blockOf, referencesOf, freshStart, overruns}
+use Rattle.rules.specs.Events.{blockOf, lastByte, referencesOf, freshStart, overruns}
 use Rattle.rules.specs.Layout.{Tracker, stored}
 use Rattle.rules.specs.Conditions.{tornFor, full}
 use Rattle.rules.specs.Calls.{stepOf, referOf, applyOf}
@@ -35,8 +35,16 @@ pub record Expansion (offset bytes : ℕ) : Type 0 where
       → getD (referencesOf (Span offset bytes)) i 0 < getD (referencesOf (Span offset bytes)) j 0
   pub few : bytes < 2 ^ 32 → length (referencesOf (Span offset bytes)) ≤ 2 ^ 20 + 1
 
+-- a span overruns exactly if one of its bytes passes 2^64 - 1
+pub record PassesEnd (offset bytes : ℕ) : Type 0 where
+  pub past : overruns (Span offset bytes) ≡ true → (0 < bytes) × (2 ^ 64 - 1 < lastByte offset bytes)
+  pub within : overruns (Span offset bytes) ≡ false → (byte : ℕ) → offset ≤ byte → byte < offset + bytes → byte ≤ 2 ^ 64 - 1
+
 abbrev pub Expanded : Type 0
 Expanded = (offset bytes : ℕ) → Expansion offset bytes
+
+abbrev pub OverrunsPast : Type 0
+OverrunsPast = (offset bytes : ℕ) → PassesEnd offset bytes
 
 -- ---- one after the other
 

@@ -1,7 +1,7 @@
 -- What a C caller holds and gets. A call on the words is the rules' call on their record (`onHeld`); no call of the rules is refused 0, and each
 -- but that of a span either accepts or leaves everything (`Sound`); the statements follow from these. Assumes nothing.
 use Prim.Native.Nat.{ℕ}
-use mathlib.Core.Path.{_≡_, refl, sym, ap, subst, _∙_}
+use mathlib.Core.Path.{_≡_, refl, sym, ap, subst, subst₂, _∙_}
 use mathlib.Core.Bool.{Bool, true, false, cond}
 use mathlib.Core.List.{List, [], _∷_}
 use native.Mathlib.Omega.{arith}
@@ -25,15 +25,17 @@ use Rattle.rules.specs.Calls.{setupOf, restartOf, restartOrder, startedOver, re
 use Rattle.rules.specs.Calls.{plotOf, spanOf, applyOf}
 use Rattle.rules.specs.History.{Reference}
 use Rattle.rules.proofs.Tests.{cases, clash}
+use Rattle.rules.proofs.Answers.{refused-same}
+use borrow.Author.Tests.{eqb-true}
 use Rattle.rules.proofs.Order.{not-both, says-given, says-accepted, says-some, leaves-was}
 use Rattle.rules.proofs.Calls.{setup-accept, setup-begins, restart-either, refer-either, refer-accept}
 use Rattle.demands.specs.Runs.{Run, setup, restart, refer, onto}
 use Rattle.demands.specs.Statements.{historyReply}
-use Rattle.demands.specs.Spans.{OneByOne}
-use Rattle.demands.specs.Refusing.{isSpan, staleOr}
+use Rattle.demands.specs.Spans.{Made, none as nothing-made, OneByOne}
+use Rattle.demands.specs.Refusing.{isSpan, applyOrder, FirstIs, staleOr}
 use Rattle.demands.specs.Needed.{neededBy, SameBeyond, settingsUnder, mostNeeded}
 use Rattle.demands.proofs.Spans.{events-one-by-one}
-use Rattle.demands.proofs.Refusing.{untouched, apply-some, stale-says, stale-plots, only-stale}
+use Rattle.demands.proofs.Refusing.{untouched, in-order, apply-in-order, apply-some, stale-says, stale-plots, only-stale}
 use Rattle.demands.proofs.Needed.{same-all, started-tables, only-needed}
 use Rattle.demands.proofs.Tracking.{threshold, live-list, numbers, whole-answers}
 use Rattle.demands.proofs.Alone.{nothing-else}
@@ -42,6 +44,8 @@ use Rattle.feed.specs.Feed.{End, whole, inside, Feeding, feedOf, leftBy}
 use Rattle.feed.specs.Past.{pastAfter, pastOf, Events, none, referencesNext}
 use Rattle.feed.proofs.Laws.{Took, apply-either, by-feeding}
 use Rattle.feed.proofs.Pieces.{taken-alone}
+use Rattle.feed.specs.Refused.{nextOrder}
+use Rattle.feed.proofs.Refused.{feed-in-order}
 use Rattle.feed.proofs.Runs.{ran}
 use Rattle.rules.specs.declared.Written.the-variants as written
 use Rattle.writing.specs.ReadBack.{WritePromise}
@@ -367,7 +371,8 @@ module _ (bytes : List ℕ) (h : Held) where
         are = subst (λ n. Events (take n bytes) []) (sym (ap (λ o. o .value .taken) (fed-by bytes h true e))) none;
         made = [];
         rest = [];
-        first-part = λ enough. clash e enough;
+        first-part = ap referencesNext (sym (few-words (h .words) (readOf (drop (feedIn bytes h .value .taken) bytes)) e));
+        accepted = subst₂ (Made []) (sym (ap (λ o. trackerIn (o .left)) (fed-by _ h true e))) (sym (ap trackerIn left)) nothing-made;
         continued = λ past holds. subst (HoldsRun past) (sym left) holds;
         from-fresh-start = λ b. clash b refl;
         only-needed = subst (λ z. SameBeyond (mostNeeded [] [] (recordOf (h .words) .settings)) (h .tables) (z .tables)) (sym left)
@@ -380,7 +385,13 @@ module _ (bytes : List ℕ) (h : Held) where
         are = subst (λ n. Events (take n bytes) (r .events)) (sym (taken-is e)) (r .are);
         made = r .made;
         rest = r .rest;
-        first-part = λ enough. r .first-part ∙ ap (λ n. referencesNext (readOf (drop n bytes))) (sym (taken-is e));
+        first-part = r .first-part ∙ ap (λ n. referencesNext (readOf (drop n bytes))) (sym (taken-is e))
+            ∙ ap referencesNext (sym (enough-words (h .words) (readOf (drop (feedIn bytes h .value .taken) bytes)) e));
+        accepted = subst₂ (Made (r .made))
+            (sym (ap (λ n. trackerIn (feedIn (take n bytes) h .left)) (taken-is e)
+            ∙ ap (λ o. trackerIn (o .left)) (fed-by (take (fed .taken) bytes) h false e ∙ ap (fedIn h) (r .alone .before))
+            ∙ held-put h (r .alone .between) e))
+            (sym (ap (λ o. trackerIn (o .left)) (fed-by bytes h false e) ∙ held-put h (fed .left) e)) (r .accepted);
         continued = λ past holds. fed-held (onto (r .made) (pastOf (r .events) past)) e (r .continued past (holds .run));
         from-fresh-start = λ b past. fed-held (onto (r .made) (pastOf (r .events) past)) e (r .from-fresh-start b past);
         only-needed =
@@ -395,6 +406,18 @@ apply-left (gives g) s = refl
 
 put-put : (a b : Record) (w : List ℕ) → fewWords w ≡ false → put a (put b w) ≡ put a w
 put-put a b w e = ap (λ z. cond z (put b w) (over (wordsOf a) (put b w))) (enough-put b w e) ∙ rw e
+
+-- the first refusal of the next event is that of applying it
+applied-refused : (r : Result Got) (s : Tracker) (n : ℕ) → FirstIs n (nextOrder r s) → applyGot r s .result ≡ refused n
+applied-refused (gives g) s n x =
+    ap (giving (g .taken)) (apply-in-order (g .event) s ∙ in-order .always-so (applyOrder (g .event) s) tt n x)
+applied-refused (refused m) s n x =
+    let refuses : says {A = Unit {0}} (nextOrder (refused m) s) tt ≡ refused n = in-order .always-so (nextOrder (refused m) s) tt n x in
+    cases (eqb m 8)
+    (λ q. ap refused (eqb-true m 8 q ∙ refused-same (rw q at refuses)))
+    (λ q. cases (eqb m 10)
+    (λ t. ap refused (eqb-true m 10 t ∙ refused-same (rw (q, t) at refuses)))
+    (λ t. absurd (not-both refuses (rw (q, t)))))
 
 pub fed-alone : FedAlone
 fed-alone bytes h e =
@@ -417,6 +440,18 @@ fed-alone bytes h e =
           ∙ apply-left (readOf (drop (f .taken) bytes)) (w .between))
           ∙ ap (λ l. held l (leftBy (readOf (drop (f .taken) bytes)) (w .between) .tables))
           (put-put (leftBy (readOf (drop (f .taken) bytes)) (w .between) .kept) (w .between .kept) (h .words) e));
+      same-refusal = λ nonzero. result-cases (f .result)
+          (λ a r. absurd (nonzero (ap (λ o. o .value .refusal) (fed-by bytes h false e) ∙ fed-number (f .taken) (f .result) ∙ ap numberOf r)))
+          (λ n r.
+          let x = feed-in-order .only-so bytes s n r in
+          let same : x .alone .between ≡ w .between = ap (λ o. o .left) (sym (x .alone .before) ∙ w .before) in
+          let rest = readOf (drop (f .taken) bytes) in
+          ap (λ m. applyIn (drop m bytes) between .value .refusal) (taken-is bytes h e)
+          ∙ applied-number (onHeld (applyGot rest) between .result)
+          ∙ ap (λ o. numberOf (o .result)) (by-words (applyGot rest) between false enough)
+          ∙ ap numberOf (ap (λ z. applyGot rest z .result) (held-put h (w .between) e)
+          ∙ applied-refused rest (w .between) n (subst (λ z. FirstIs n (nextOrder rest z)) same (x .next)))
+          ∙ sym (ap (λ o. o .value .refusal) (fed-by bytes h false e) ∙ fed-number (f .taken) (f .result) ∙ ap numberOf r));
     }
 
 -- ---- demand 1

@@ -18,7 +18,7 @@ use Rattle.rules.specs.Calls.{setupOf, restartOf, referOf, spanOf, pointOf, plo
 use Rattle.rules.specs.History.{recency, Largest, Reference, locations}
 use Rattle.rules.specs.Cache.{hits}
 use Rattle.demands.specs.Runs.{Run, onto}
-use Rattle.demands.specs.Spans.{OneByOne}
+use Rattle.demands.specs.Spans.{Made, OneByOne}
 use Rattle.demands.specs.Refusing.{isSpan, AnotherShape, staleOr}
 use Rattle.demands.specs.Needed.{neededBy, SameBeyond, settingsUnder, mostNeeded}
 use Rattle.demands.specs.Statements.{historyReply, inForce, sizeAt, Alone}
@@ -70,11 +70,14 @@ pub record LeftAsItWas : Type 0 where
       → (applyIn bytes h .value .refusal ≡ 0 → ⊥) → applyIn bytes h .left ≡ h
   pub by-write : (e : Event) (buffer : List ℕ) → (writeIn e buffer .value .refusal ≡ 0 → ⊥) → writeIn e buffer .left ≡ buffer
 
--- feeding just the bytes that were taken is accepted, and what is left is what applying the event behind them then leaves
+-- feeding just the bytes that were taken is accepted, and what is left is what applying the event behind them then leaves; if feeding is
+-- refused, that event is, by the same number
 pub record FedThenApplied (bytes : List ℕ) (h : Held) : Type 0 where
   pub between : Held
   pub before : let n = feedIn bytes h .value .taken in feedIn (take n bytes) h ≡ returned (fedWords n (gives whole)) between
   pub left-is : feedIn bytes h .left ≡ applyIn (drop (feedIn bytes h .value .taken) bytes) between .left
+  pub same-refusal : (feedIn bytes h .value .refusal ≡ 0 → ⊥)
+      → applyIn (drop (feedIn bytes h .value .taken) bytes) between .value .refusal ≡ feedIn bytes h .value .refusal
 
 abbrev pub FedAlone : Type 0
 FedAlone = (bytes : List ℕ) (h : Held) → fewWords (h .words) ≡ false → FedThenApplied bytes h
@@ -147,7 +150,8 @@ pub record FedRun (bytes : List ℕ) (h : Held) : Type 0 where
   -- the accepted ones come first among the references of the event behind the bytes taken
   pub made : List Reference
   pub rest : List Reference
-  pub first-part : fewWords (h .words) ≡ false → made ++ rest ≡ referencesNext (readOf (drop (feedIn bytes h .value .taken) bytes))
+  pub first-part : made ++ rest ≡ referencesNext (onWords (h .words) (readOf (drop (feedIn bytes h .value .taken) bytes)))
+  pub accepted : Made made (trackerIn (feedIn (take (feedIn bytes h .value .taken) bytes) h .left)) (trackerIn (feedIn bytes h .left))
   pub continued : (past : List Reference) → HoldsRun past h → HoldsRun (onto made (pastOf events past)) (feedIn bytes h .left)
   pub from-fresh-start : anyFreshStart events ≡ true → (past : List Reference)
       → HoldsRun (onto made (pastOf events past)) (feedIn bytes h .left)

@@ -11,8 +11,9 @@ use Rattle.rules.specs.Events.{readOf, referencesOf, freshStart}
 use Rattle.rules.specs.Layout.{Tracker}
 use Rattle.rules.specs.History.{Reference}
 use Rattle.demands.specs.Runs.{Run, onto}
+use Rattle.demands.specs.Spans.{Made}
 use Rattle.demands.specs.Needed.{SameBeyond, mostNeeded}
-use Rattle.feed.specs.Feed.{Feeding}
+use Rattle.feed.specs.Feed.{Feeding, TakenAlone}
 
 -- the references since the last fresh start, newest first, after one more event
 abbrev pub pastAfter : Event → List Reference → List Reference
@@ -47,9 +48,11 @@ referencesNext (gives g) = referencesOf (g .event)
 pub record Ran (bytes : List ℕ) (s : Tracker) (f : Feeding) : Type 0 where
   pub events : List Event
   pub are : Events (take (f .taken) bytes) events
-  -- the accepted ones come first among the references of the event behind the bytes taken
+  -- what the bytes taken leave, and the references of the event behind them that were then made, which come first among its own
+  pub alone : TakenAlone bytes s f
   pub made : List Reference
   pub rest : List Reference
+  pub accepted : Made made (alone .between) (f .left)
   pub first-part : made ++ rest ≡ referencesNext (readOf (drop (f .taken) bytes))
   pub continued : (past : List Reference) → Run past s → Run (onto made (pastOf events past)) (f .left)
   pub from-fresh-start : anyFreshStart events ≡ true → (past : List Reference) → Run (onto made (pastOf events past)) (f .left)
