@@ -37,6 +37,7 @@ static const char *name_of(uint64_t refusal)
         [ROCKGINGHAM_REFUSED_FULL] = "Full",     [ROCKGINGHAM_REFUSED_STALE] = "Stale",
         [ROCKGINGHAM_REFUSED_POINT] = "Point",   [ROCKGINGHAM_REFUSED_SHORT] = "Short",
         [ROCKGINGHAM_REFUSED_KIND] = "Kind",     [ROCKGINGHAM_REFUSED_EMPTY] = "Empty",
+        [ROCKGINGHAM_REFUSED_OVERRUN] = "Overrun",
     };
     return refusal < sizeof names / sizeof names[0] ? names[refusal] : "unknown";
 }

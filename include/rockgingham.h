@@ -31,8 +31,8 @@
  *
  * REFUSALS. Every call that can be refused gives the refusal first: ROCKGINGHAM_ACCEPTED (0) if it did what it was asked, or one
  * of enum rockgingham_refusal. If several apply, it gives the first in the order that the function's comment names. All other
- * fields of what a refused call returns are 0, except what rockgingham_feed has taken. A refused call stores nothing: no word of
- * a record, no entry of a table, no byte of a buffer, not even the value that is there already. There are two exceptions:
+ * fields of what a refused call returns are 0, except `taken` of rockgingham_feed. A refused call stores nothing: no word of a
+ * record, no entry of a table, no byte of a buffer, not even the value that is there already. There are two exceptions:
  *   - rockgingham_feed keeps what the events before the refused one did;
  *   - a span stands for several references, made one after the other. If one of them is refused, by rockgingham_refer_span,
  *     rockgingham_apply or rockgingham_feed, those before it stay counted. See rockgingham_refer_span.
@@ -196,8 +196,8 @@ struct rockgingham_answer rockgingham_refer(uint64_t *record, size_t record_word
  * The references are made one after the other, each as by rockgingham_refer, until one is refused. The refused reference changes
  * nothing and ends the call. Those before it stay counted: the record and the tables are left exactly as those alone would leave
  * them. After the first reference, only 4, and 3 for a bucket, can occur. The refusal does not say how many references were made.
- * The record does: subtract the value that word ROCKGINGHAM_WORD_REFERENCES had before the call from the value it has now. Do not
- * pass the same I/O again: its first part would be counted twice.
+ * The record does: subtract the value that word ROCKGINGHAM_WORD_REFERENCES had before the call from the value it has now. If any
+ * were made, do not pass the same I/O again: they would be counted twice.
  *
  * Returns the refusal: 10, with nothing changed; 2 for the record's words; then, for each reference, those of rockgingham_refer.
  */
@@ -276,8 +276,8 @@ struct rockgingham_applied {
 
 /*
  * Applies the first event of the bytes: makes the references or the fresh start that it stands for, if it stands for any. If a
- * span is refused, the references before the refused one stay counted, as by rockgingham_refer_span. Do not apply the same event
- * again: its first part would be counted twice.
+ * span is refused, the references before the refused one stay counted, as by rockgingham_refer_span. If any were made, do not
+ * apply the same event again: they would be counted twice.
  * Refusals: 2 for the record's words; those of rockgingham_read; those of the call that the event stands for. A span of length 0
  * judges no record and no table.
  */
@@ -297,7 +297,8 @@ struct rockgingham_fed {
  *
  * A refused event is not taken: it begins right after the bytes taken. The record and the tables are left exactly as feeding only
  * the bytes taken would leave them, unless the event is a span: then its references before the refused one stay counted too, as
- * by rockgingham_refer_span. Do not feed that event again: its first part would be counted twice.
+ * by rockgingham_refer_span. If any of them were made, do not feed that event again: they would be counted twice. The record's
+ * references count them together with those of the events taken since the last fresh start.
  *
  * Refusals: 2 for the record's words, with no bytes too, and then nothing is taken; 8; 10; those of the call that an event stands
  * for.

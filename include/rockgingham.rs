@@ -1,7 +1,7 @@
 //! The functions of rockgingham.h, declared for Rust. The header documents them; nothing checks the two against each other but the
 //! tests, which call every one.
 //!
-//! What a call gives has the refusal first, 0 if it was accepted. If it was refused, all else is 0, except what feed has taken.
+//! What a call gives has the refusal first, 0 if it was accepted. If it was refused, all else is 0, except `taken` of feed.
 
 #![allow(dead_code)]
 

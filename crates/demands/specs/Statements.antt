@@ -121,7 +121,8 @@ pub record Bounded (s : Tracker) (j : ℕ) : Type 0 where
 abbrev pub Bounds : Type 0
 Bounds = (past : List Reference) (s : Tracker) → Run past s → (j : ℕ) → j < needed (s .kept .settings .buckets) → Bounded s j
 
--- a refused call leaves the run what it was, so that refused calls may stand anywhere in it
+-- a refused reference, restart or setup leaves the run what it was, so that they may stand anywhere in it; a refused span continues it
+-- (specs/Spans)
 pub record Unmoved (past : List Reference) (s : Tracker) : Type 0 where
   pub by-refer : (x : Reference) (n : ℕ) → referOf x s .result ≡ refused n → Run past (referOf x s .left)
   pub by-restart : (n : ℕ) → restartOf (s .kept) (s .tables) .result ≡ refused n

@@ -63,7 +63,7 @@ returning words o = returned (words (o .result)) (o .left)
 abbrev pub keeping : {A : Type 0} → Held → Outcome A Tracker → Outcome A Held
 keeping h o = outcome (o .result) (held (put (o .left .kept) (h .words)) (o .left .tables))
 
--- too few words for a record: every call but setup answers 2, before all else
+-- too few words for a record: 2, before all else that the call judges; setup is below, and a span that overruns is refused 10 before
 abbrev pub onHeld : {A : Type 0} → (Tracker → Outcome A Tracker) → Held → Outcome A Held
 onHeld call h = cond (fewWords (h .words)) (outcome (refused 2) h) (keeping h (call (trackerIn h)))
 

@@ -137,8 +137,8 @@ pub extern "C" fn rockgingham_refer(
     given
 }
 
-// Feeds the bytes, and stores the record if that changed it: an event was taken, or a reference of the refused one was accepted. Each call
-// that applies an event comes here: `feed`, and `apply` in its loop, are compiled once, with the record kept in registers.
+// Feeds the bytes, and stores the record if an event was taken or a reference of the refused one was accepted. Each call that applies an
+// event comes here: `feed`, and `apply` in its loop, are compiled once, with the record in registers as long as references are Skipped.
 fn feed_stored(
     words: &mut [u64],
     bytes: &[u8],

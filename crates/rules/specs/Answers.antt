@@ -1,4 +1,4 @@
--- Document 01's number and values for each case of each answer. The promises read answers through these. Assumes nothing.
+-- The documents' number and values for each case of each answer. The promises read answers through these. Assumes nothing.
 use Prim.Native.Nat.{ℕ}
 use Rattle.rules.specs.declared.Record.{Record}
 use Rattle.rules.specs.declared.Point.{Point}

@@ -1,5 +1,5 @@
 -- Document 01, "Refusal numbers": each call as one function from what it is handed to what it answers and leaves, by its order of
--- refusals. Assumes nothing.
+-- refusals, a span by its references. Assumes nothing.
 use Prim.Native.Nat.{ℕ}
 use mathlib.Core.Bool.{cond}
 use mathlib.Core.List.{List, [], _∷_}

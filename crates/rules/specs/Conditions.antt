@@ -1,5 +1,5 @@
--- Document 01, "Refusal numbers": the condition of each refusal. 1 is `outOfRange` in Settings, 7 and 8 are in Events, 6 and 9
--- in the order of a point in Calls. Assumes nothing.
+-- Document 01, "Refusal numbers": the condition of each refusal. 1 is `outOfRange` in Settings, 7, 8 and 10 are in Events, 6 and
+-- 9 in the order of a point in Calls. Assumes nothing.
 use Prim.Native.Nat.{ℕ, zero, suc, _*_}
 use mathlib.Core.Bool.{Bool, false, not, cond, _||_}
 use lib.Dec.{eqb, ltb}

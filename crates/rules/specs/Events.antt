@@ -1,4 +1,4 @@
--- Document 01, "Trace events". Assumes nothing.
+-- Document 01, "Trace events", with document 02, "I/O that spans blocks". Assumes nothing.
 use Prim.Native.Nat.{ℕ, zero, suc, _+_, _-_, _*_, _/_, _%_, _^_, _<_}
 use mathlib.Core.Bool.{Bool, true, false, cond, _||_}
 use mathlib.Core.List.{List, [], _∷_, _++_}

@@ -179,7 +179,7 @@ pub enum Event {
 pub enum Reading {
     // An event, with the number of bytes it took.
     Got(Event, usize),
-    // The bytes do not begin with a whole event.
+    // The bytes do not begin with a whole event, or it overruns.
     Refused(Refusal),
 }
 

@@ -68,7 +68,7 @@ pub record Returned (A S : Type 0) : Type 0 where
 abbrev pub returned : {A S : Type 0} → A → S → Returned A S
 returned value left = record { value = value; left = left }
 
--- a call that changed the record stores it; one that did not stores nothing
+-- the record is stored if it is said to have changed
 abbrev pub storedIf : (changed : Bool) → Record → List ℕ → List ℕ
 storedIf changed kept w = cond changed (put kept w) w
 

@@ -141,7 +141,7 @@ fn put(words: &mut [u64], kept: Record)
     }
 }
 
-// Stores the record that a call leaves; a call that did not change it stores nothing.
+// Stores the record that a call leaves, if it is said to have changed; otherwise nothing.
 pub fn store_if(words: &mut [u64], changed: bool, kept: Record)
     ensures { λ _. ⌜ now (words .exit) ≡ storedIf changed kept (now (words .entry)) ⌝ }
 {
