@@ -89,7 +89,8 @@ FullRate = (past : List Reference) (s : Tracker) → Run past s → s .kept .set
 
 -- "Trace events written are read back the same.": with their length, any bytes behind them; one that overruns is not written
 abbrev pub ReadBack : Type 0
-ReadBack = (e : Event) → Fits e → overruns e ≡ false → (rest : List ℕ) → readOf (eventBytes e ++ rest) ≡ gives (record { event = e; taken = eventLength e })
+ReadBack = (e : Event) → Fits e → overruns e ≡ false → (rest : List ℕ)
+    → readOf (eventBytes e ++ rest) ≡ gives (record { event = e; taken = eventLength e })
 
 abbrev pub WrittenReadBack : Type 0
 WrittenReadBack = (e : Event) → Fits e → (buffer : List ℕ) (n : ℕ) → writeOf e buffer .result ≡ gives n

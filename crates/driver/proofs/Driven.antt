@@ -485,7 +485,8 @@ overrun-refused : (offset bytes : ℕ) (s : Tracker) → overrun offset bytes �
 unfolding spanOf
 overrun-refused offset bytes s o = rw o
 
-span-zero : (offset bytes : ℕ) (h : Held) → ZeroWhen (spanIn offset bytes h .value) (AcceptedOn (h .words) (spanOf offset bytes (trackerIn h) .result))
+span-zero : (offset bytes : ℕ) (h : Held)
+    → ZeroWhen (spanIn offset bytes h .value) (AcceptedOn (h .words) (spanOf offset bytes (trackerIn h) .result))
 span-zero offset bytes h = span-cases offset bytes h
     (λ o e. (
       (λ z. absurd (ten-not-zero (sym (ap (λ r. r .value) e) ∙ z))),

@@ -168,7 +168,8 @@ module _ (bytes : List ℕ) (h : Held) where
       own z =
           let n = neither z in
           let taken-none : f .taken ≡ 0 = eqb-true _ _ (not-false (eqb (f .taken) 0) (n .0)) in
-          let made-none : f .left .kept .numbers .references ≡ recordOf (h .words) .numbers .references = eqb-true _ _ (not-false (eqb (f .left .kept .numbers .references) (recordOf (h .words) .numbers .references)) (n .1)) in
+          let made-none : f .left .kept .numbers .references ≡ recordOf (h .words) .numbers .references =
+          eqb-true _ _ (not-false (eqb (f .left .kept .numbers .references) (recordOf (h .words) .numbers .references)) (n .1)) in
           ap (λ q. q .left .kept) e
           ∙ ap (λ q. q .kept) (none-taken bytes (trackerIn h) (sym (ap (λ q. q .taken) e) ∙ taken-none)
           (sym (ap (λ q. q .left .kept .numbers .references) e) ∙ made-none))
@@ -243,7 +244,8 @@ module _ (offset bytes : ℕ) (h : Held) where
               → returning numberOf (onHeld (spanOf offset bytes) h) ≡ returning numberOf (keeping h o)
           by is = ap (returning numberOf) (by-words (spanOf offset bytes) h false enough) ∙ ap (λ o. returning numberOf (keeping h o)) is
 
-      pub span-fed : {f : FedWords} {r : ℕ} {after : Held} {written : List ℕ} → written ≡ event → returned f after ≡ fedFrom written h → r ≡ f .refusal
+      pub span-fed : {f : FedWords} {r : ℕ} {after : Held} {written : List ℕ} → written ≡ event → returned f after ≡ fedFrom written h
+          → r ≡ f .refusal
           → returned r after ≡ spanIn offset bytes h
       span-fed {f} {r} {after} put e is =
           (λ i. returned (is i) after) ∙ ap (λ z. returned (z .value .refusal) (z .left)) (e ∙ ap (λ l. fedFrom l h) put) ∙ sym span-alone

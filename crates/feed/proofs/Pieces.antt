@@ -16,7 +16,8 @@ use Rattle.rules.specs.Layout.{Tracker}
 use Rattle.rules.specs.Calls.{applyOf}
 use Rattle.rules.proofs.Events.{read-empty, taken}
 use Rattle.demands.proofs.Spans.{made-none}
-use Rattle.feed.specs.Feed.{End, whole, inside, Feeding, stopped, further, afterEvent, afterReading, feedOf, onward, resumed, leftBy, TakenAlone}
+use Rattle.feed.specs.Feed.{End, whole, inside, Feeding, stopped, further, afterEvent, afterReading, feedOf, onward, resumed}
+use Rattle.feed.specs.Feed.{leftBy, TakenAlone}
 use Rattle.rules.proofs.Fronts.{read-more, read-short, read-refused, drop-take, read-front}
 use Rattle.feed.proofs.Laws.{taking, Took, apply-either, feed-none, feed-reads, by-feeding}
 

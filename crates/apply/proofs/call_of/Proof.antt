@@ -32,7 +32,8 @@ returns-2 : tie.Need-returns-2
 returns-2 c = rw (c .before .event .given .1)
 
 returns-3 : tie.Need-returns-3
-returns-3 c = rw (c .before .before .before .before .event2 .given .1, ← c .before .before .overruns .ensures, c .before .if1 .left, c .blocks-in .ensures)
+returns-3 c =
+    rw (c .before .before .before .before .event2 .given .1, ← c .before .before .overruns .ensures, c .before .if1 .left, c .blocks-in .ensures)
 
 returns-4 : tie.Need-returns-4
 returns-4 c = rw (c .enum-told .given .1)

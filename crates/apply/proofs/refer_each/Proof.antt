@@ -52,7 +52,9 @@ enum-told : tie.Need-enum-told Inv-loop μ-loop
 enum-told c = search needs
 
 add-i : tie.Need-add-i Inv-loop μ-loop
-add-i c = let turn = turn-of (c .before .before .before .before .before .before .before .before .before) in omega (arith, turn .loop-test, turn .before .before .before .before .before .good)
+add-i c =
+    let turn = turn-of (c .before .before .before .before .before .before .before .before .before) in
+    omega (arith, turn .loop-test, turn .before .before .before .before .before .good)
 
 loop-less : tie.Need-loop-less Inv-loop μ-loop
 loop-less c = search needs

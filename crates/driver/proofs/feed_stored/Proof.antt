@@ -34,7 +34,7 @@ same-length-4 c = search needs
 returns : tie.Need-returns
 returns c =
     let called = c .before .before .before .before .before .before .before .before .before .before .before .before .before .before in
-    let a = c .before .before .before .before .before .before .before .before .before .before .before .before .before .before .before .before .before .before .before .before .before .before .before .before .before .args in
+    let a = called .before .before .before .before .before .before .before .before .before .before .before .args in
     feed-stored _ (held (now (a .words)) (tablesOf (now (a .locations)) (now (a .counts)) (now (a .thresholds))))
     (rw (called .before .before .before .before .record-of .ensures) at (called .feed .ensures))
     (c .fed-words .ensures) (rw (called .before .before .before .before .record-of .ensures) at (c .before .before .before .store-if .ensures))

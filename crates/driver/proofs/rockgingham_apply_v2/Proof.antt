@@ -73,11 +73,13 @@ same-length-5 c = search needs
 
 returns-2 : tie.Need-returns-2
 returns-2 c =
-    let read = c .before .before .before .before .before .before .before .before .before .before .before .before .before .before .before .before .before .before in
+    let fed = c .before .before .before .before .before .before .before .before .before in
+    let got = fed .before .before .before .before .before .before .before in
+    let read = got .before .before in
     let a = read .before .before .before .before .before .before .before .before .before .args in
     apply-fed _ (held (now (a .words)) (tablesOf (now (a .locations)) (now (a .counts)) (now (a .thresholds))))
     (sym (read .before .before .too-few .ensures) ∙ read .before .if1 .left)
-    (sym (read .read .ensures) ∙ ap readingResult (c .before .before .before .before .before .before .before .before .before .before .before .before .before .before .before .before .taken .given .1)) (c .before .before .before .before .before .before .before .before .before .feed-stored .ensures)
+    (sym (read .read .ensures) ∙ ap readingResult (got .taken .given .1)) (fed .feed-stored .ensures)
     (c .applied-words2 .ensures)
 
 same-length-6 : tie.Need-same-length-6

@@ -41,7 +41,8 @@ returns-2 c =
     let judged = c .before .before .before .before .before .before .before .before .before .before .before .before .before in
     let a = judged .before .before .before .before .before .before .before .before .args in
     c .before .before .before .before .before .before .before .before .feed-stored .ensures ∙ sym
-    (fed-by _ (held (now (a .words)) (tablesOf (now (a .locations)) (now (a .counts)) (now (a .thresholds)))) false (sym (judged .before .too-few .ensures) ∙ judged .if1 .left))
+    (fed-by _ (held (now (a .words)) (tablesOf (now (a .locations)) (now (a .counts)) (now (a .thresholds)))) false
+    (sym (judged .before .too-few .ensures) ∙ judged .if1 .left))
 
 pub rockgingham-feed-v2-spec : {M : Type 1} → statement M
 rockgingham-feed-v2-spec =

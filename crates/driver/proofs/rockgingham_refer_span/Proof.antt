@@ -32,7 +32,8 @@ returns-2 : tie.Need-returns-2
 returns-2 c =
     let a = c .before .before .before .before .before .before .before .before .before .before .args in
     span-few (a .offset) (a .length) (held (now (a .words)) (tablesOf (now (a .locations)) (now (a .counts)) (now (a .thresholds))))
-    (sym (c .before .before .before .before .before .overruns .ensures) ∙ c .before .before .before .before .if1 .left) (sym (c .before .before .too-few .ensures) ∙ c .before .if2 .taken)
+    (sym (c .before .before .before .before .before .overruns .ensures) ∙ c .before .before .before .before .if1 .left)
+    (sym (c .before .before .too-few .ensures) ∙ c .before .if2 .taken)
     (c .number-of2 .ensures)
 
 slice-aggregate-write : tie.Need-slice-aggregate-write
@@ -61,15 +62,16 @@ same-length-5 c = search needs
 
 returns-3 : tie.Need-returns-3
 returns-3 c =
-    let judged = c .before .before .before .before .before .before .before .before .before .before .before .before .before .before .before .before .before in
+    let fed = c .before .before .before .before .before .before .before .before in
+    let written = fed .before .before .before .before .before .before .before in
+    let judged = written .before .before in
     let tested = judged .before .before .before in
-    let written = c .before .before .before .before .before .before .before .before .before .before .before .before .before .before .before in
-    let a = c .before .before .before .before .before .before .before .before .before .before .before .before .before .before .before .before .before .before .before .before .before .before .before .before .before .before .args in
+    let a = tested .before .before .before .before .before .before .args in
     let within = sym (tested .before .overruns .ensures) ∙ tested .if1 .left in
     span-fed (a .offset) (a .length) (held (now (a .words)) (tablesOf (now (a .locations)) (now (a .counts)) (now (a .thresholds)))) within
     (sym (judged .before .too-few .ensures) ∙ judged .if2 .left)
     (written .write .ensures .1) (span-written (a .offset) (a .length) _ within refl refl (written .write .ensures .0))
-    (c .before .before .before .before .before .before .before .before .feed-stored .ensures) refl
+    (fed .feed-stored .ensures) refl
 
 pub rockgingham-refer-span-spec : {M : Type 1} → statement M
 rockgingham-refer-span-spec =

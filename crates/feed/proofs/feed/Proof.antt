@@ -42,6 +42,9 @@ event-skipped d = d .before .before .before .before .before
 abbrev apply-taken : tie.After-enum-told2 Inv-loop μ-loop → tie.After-apply Inv-loop μ-loop
 apply-taken c = c .before .before .before .before .before .before .before .before .before
 
+abbrev apply-stopped : tie.After-known-told3 Inv-loop μ-loop → tie.After-apply Inv-loop μ-loop
+apply-stopped c = c .before .before .before .before .before .before .before .before .before .before
+
 -- the bytes from this turn's place on
 abbrev rest : tie.At-loop Inv-loop μ-loop → List ℕ
 rest turn = drop (turn .loop .at) (now (known-bytes turn .before .args .bytes))
@@ -117,13 +120,13 @@ enum-known-answer : tie.Need-enum-known-answer Inv-loop μ-loop
 enum-known-answer c = search needs
 
 same-length : tie.Need-same-length Inv-loop μ-loop
-same-length c = let done = c .before .before .before .before .before .before .before .before .before .before in search (needs, done .apply, turn (event-applied done) .loop .inv)
+same-length c = let done = apply-stopped c in search (needs, done .apply, turn (event-applied done) .loop .inv)
 
 same-length-2 : tie.Need-same-length-2 Inv-loop μ-loop
-same-length-2 c = let done = c .before .before .before .before .before .before .before .before .before .before in search (needs, done .apply, turn (event-applied done) .loop .inv)
+same-length-2 c = let done = apply-stopped c in search (needs, done .apply, turn (event-applied done) .loop .inv)
 
 same-length-3 : tie.Need-same-length-3 Inv-loop μ-loop
-same-length-3 c = let done = c .before .before .before .before .before .before .before .before .before .before in search (needs, done .apply, turn (event-applied done) .loop .inv)
+same-length-3 c = let done = apply-stopped c in search (needs, done .apply, turn (event-applied done) .loop .inv)
 
 returns : tie.Need-returns Inv-loop μ-loop
 returns c =
