@@ -1,6 +1,6 @@
 -- One trace event, by what it asks for: an event is that call (`done-is`, by its kind), and what the call answers, taken over, is what the rules
 -- say, by the cases of the answer. Assumes nothing.
-use Prim.Native.Nat.{ℕ, _+_, _<_, _≤_, _^_}
+use Prim.Native.Nat.{ℕ, _+_, _≤_, _^_}
 use mathlib.Core.Path.{_≡_, refl, sym, ap, subst, _∙_}
 use mathlib.Core.List.{List, [], _∷_}
 use mathlib.Core.Option.{Option, some}
@@ -14,17 +14,13 @@ use Rattle.rules.specs.declared.Event.the-variants as event
 use Rattle.rules.specs.declared.Started.{Started}
 use Rattle.rules.specs.declared.Started.the-variants as started
 use Rattle.rules.specs.declared.Applied.{Applied}
-use Rattle.rules.specs.declared.Refusal.{Refusal}
-use Rattle.rules.specs.declared.Taken.{Taken}
-use Rattle.rules.specs.declared.Taken.the-variants as taken
 use Rattle.rules.specs.declared.Referred.{Referred}
 use Rattle.rules.specs.declared.Answer.{Answer}
 use Rattle.rules.specs.declared.Answer.the-variants as answer
 use Rattle.rules.specs.Settings.{Tables}
-use Rattle.rules.specs.Reference.{Reply, skipped, first, again}
 use Rattle.rules.specs.Answers.{refused, gives, number, replyResult, takenResult, startedResult}
 use Rattle.rules.specs.Order.{Outcome, outcome}
-use Rattle.rules.specs.Events.{Fits, blockOf, rising, blocksIn, overrun}
+use Rattle.rules.specs.Events.{Fits, rising, overrun}
 use Rattle.rules.specs.Layout.{Tracker, tracker, tablesOf}
 use Rattle.rules.specs.Calls.{setupOf, restartOf, referOf, startedOver, goingOn, referAll, applyOf}
 use Rattle.rules.proofs.Tests.{cases}

@@ -18,7 +18,7 @@ use Rattle.rules.specs.Calls.{stepOf}
 use Rattle.rules.proofs.Tests.{cases}
 use Rattle.rules.proofs.Answers.{gives-same}
 use Rattle.rules.proofs.Tables.{over-front}
-use Rattle.rules.proofs.Bounds.{Whole, whole, untorn, InRange, in-range, all-long, none-short, not-torn}
+use Rattle.rules.proofs.Bounds.{Whole, whole, untorn, in-range, all-long, none-short, not-torn}
 use Rattle.rules.proofs.Steps.{Tracked, tracked-fresh, tracked-step}
 use Rattle.rules.proofs.FullRate.{profile-cut}
 use Rattle.rules.proofs.Fresh.{fresh-long}

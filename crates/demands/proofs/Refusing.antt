@@ -12,7 +12,6 @@ use borrow.Author.Tests.{eqb-true}
 use Rattle.rules.specs.declared.Settings.{Settings}
 use Rattle.rules.specs.declared.Record.{Record}
 use Rattle.rules.specs.declared.Shape.{Shape}
-use Rattle.rules.specs.declared.Refusal.{Refusal}
 use Rattle.rules.specs.declared.Refusal.the-variants as refusal
 use Rattle.rules.specs.declared.Pointed.the-variants as pointed
 use Rattle.rules.specs.declared.Plotted.the-variants as plotted

@@ -1,19 +1,18 @@
 -- Which blocks a span refers to, and that references are made one by one: all of a list, or a first part and then one that is refused, on
 -- what that part left. By induction on the list. Assumes nothing.
-use Prim.Native.Nat.{ℕ, _+_, _-_, _^_, _≤_, _<_}
+use Prim.Native.Nat.{ℕ, _+_, _-_, _^_, _<_}
 use mathlib.Core.Path.{_≡_, refl, sym, ap, subst, _∙_}
-use mathlib.Core.Bool.{true, false, cond}
+use mathlib.Core.Bool.{false, cond}
 use mathlib.Core.List.{List, [], _∷_, _++_}
 use native.Mathlib.Omega.{arith}
 use lib.Dec.{eqb}
 use lib.ListN.{length, getD}
 use borrow.Author.Tests.{eqb-false, ltb-true}
-use Rattle.rules.specs.declared.Event.{Event}
 use Rattle.rules.specs.declared.Event.the-variants.{Location, Span, Restart, Setup}
 use Rattle.rules.specs.Reference.{Reply}
 use Rattle.rules.specs.Answers.{refused, gives}
 use Rattle.rules.specs.Order.{Outcome, outcome}
-use Rattle.rules.specs.Events.{blockOf, lastByte, blocksIn, referencesOf, freshStart, overrun, overruns}
+use Rattle.rules.specs.Events.{blockOf, lastByte, blocksIn, referencesOf, overrun}
 use Rattle.rules.specs.Layout.{Tracker, stored}
 use Rattle.rules.specs.Conditions.{tooShort, tornRecord, tornFor, full}
 use Rattle.rules.specs.Calls.{stepOf, referOf, referAll, spanOf, applyOf}

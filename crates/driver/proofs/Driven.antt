@@ -2,10 +2,10 @@
 -- but that of a span either accepts or leaves everything (`Sound`); the statements follow from these. Assumes nothing.
 use Prim.Native.Nat.{ℕ}
 use mathlib.Core.Path.{_≡_, refl, sym, ap, subst, subst₂, _∙_}
-use mathlib.Core.Bool.{Bool, true, false, cond}
+use mathlib.Core.Bool.{true, false, cond}
 use mathlib.Core.List.{List, [], _∷_}
 use native.Mathlib.Omega.{arith}
-use lib.Dec.{ltb, eqb}
+use lib.Dec.{ltb}
 use lib.ListN.{length, take, drop}
 use Rattle.rules.specs.declared.Settings.{Settings}
 use Rattle.rules.specs.declared.Record.{Record}
@@ -25,17 +25,15 @@ use Rattle.rules.specs.Calls.{setupOf, restartOf, restartOrder, startedOver, re
 use Rattle.rules.specs.Calls.{plotOf, spanOf, applyOf}
 use Rattle.rules.specs.History.{Reference}
 use Rattle.rules.proofs.Tests.{cases, clash}
-use Rattle.rules.proofs.Answers.{refused-same}
-use borrow.Author.Tests.{eqb-true}
 use Rattle.rules.proofs.Order.{not-both, says-given, says-accepted, says-some, leaves-was}
 use Rattle.rules.proofs.Calls.{setup-accept, setup-begins, restart-either, refer-either, refer-accept}
 use Rattle.demands.specs.Runs.{Run, setup, restart, refer, onto}
 use Rattle.demands.specs.Statements.{historyReply}
 use Rattle.demands.specs.Spans.{Made, none as nothing-made, OneByOne}
-use Rattle.demands.specs.Refusing.{isSpan, applyOrder, FirstIs, staleOr}
+use Rattle.demands.specs.Refusing.{isSpan, FirstIs, staleOr}
 use Rattle.demands.specs.Needed.{neededBy, SameBeyond, settingsUnder, mostNeeded}
 use Rattle.demands.proofs.Spans.{events-one-by-one}
-use Rattle.demands.proofs.Refusing.{untouched, in-order, apply-in-order, apply-some, stale-says, stale-plots, only-stale}
+use Rattle.demands.proofs.Refusing.{untouched, apply-some, stale-says, stale-plots, only-stale}
 use Rattle.demands.proofs.Needed.{same-all, started-tables, only-needed}
 use Rattle.demands.proofs.Tracking.{threshold, live-list, numbers, whole-answers}
 use Rattle.demands.proofs.Alone.{nothing-else}
@@ -45,7 +43,7 @@ use Rattle.feed.specs.Past.{pastAfter, pastOf, Events, none, referencesNext}
 use Rattle.feed.proofs.Laws.{Took, apply-either, by-feeding}
 use Rattle.feed.proofs.Pieces.{taken-alone}
 use Rattle.feed.specs.Refused.{nextOrder}
-use Rattle.feed.proofs.Refused.{feed-in-order}
+use Rattle.feed.proofs.Refused.{event-refused, unread-named, feed-in-order}
 use Rattle.feed.proofs.Runs.{ran}
 use Rattle.rules.specs.declared.Written.the-variants as written
 use Rattle.writing.specs.ReadBack.{WritePromise}
@@ -409,15 +407,8 @@ put-put a b w e = ap (λ z. cond z (put b w) (over (wordsOf a) (put b w))) (enou
 
 -- the first refusal of the next event is that of applying it
 applied-refused : (r : Result Got) (s : Tracker) (n : ℕ) → FirstIs n (nextOrder r s) → applyGot r s .result ≡ refused n
-applied-refused (gives g) s n x =
-    ap (giving (g .taken)) (apply-in-order (g .event) s ∙ in-order .always-so (applyOrder (g .event) s) tt n x)
-applied-refused (refused m) s n x =
-    let refuses : says {A = Unit {0}} (nextOrder (refused m) s) tt ≡ refused n = in-order .always-so (nextOrder (refused m) s) tt n x in
-    cases (eqb m 8)
-    (λ q. ap refused (eqb-true m 8 q ∙ refused-same (rw q at refuses)))
-    (λ q. cases (eqb m 10)
-    (λ t. ap refused (eqb-true m 10 t ∙ refused-same (rw (q, t) at refuses)))
-    (λ t. absurd (not-both refuses (rw (q, t)))))
+applied-refused (gives g) s n x = ap (giving (g .taken)) (event-refused (g .event) s n x)
+applied-refused (refused m) s n x = ap refused (unread-named m n s x .0)
 
 pub fed-alone : FedAlone
 fed-alone bytes h e =

@@ -1,9 +1,9 @@
 -- Trackers that agree are fed alike. By `by-feeding`: each event is answered alike, and what it leaves agrees again. Assumes nothing.
-use Prim.Native.Nat.{ℕ, _+_, _<_}
+use Prim.Native.Nat.{ℕ, _+_}
 use mathlib.Core.Path.{_≡_, refl, sym, ap, subst, _∙_}
 use mathlib.Core.List.{List, []}
 use native.Mathlib.Omega.{arith}
-use lib.ListN.{length, drop}
+use lib.ListN.{drop}
 use borrow.Author.Tests.{ne-eqb}
 use Rattle.rules.specs.Answers.{Result, refused, gives, Got}
 use Rattle.rules.specs.Events.{readOf}
@@ -12,7 +12,7 @@ use Rattle.rules.specs.Calls.{applyOf}
 use Rattle.rules.proofs.Events.{taken}
 use Rattle.demands.specs.Refusing.{Agree}
 use Rattle.demands.proofs.Refusing.{agree-again}
-use Rattle.feed.specs.Feed.{End, whole, inside, Feeding, stopped, further, afterEvent, afterReading, feedOf}
+use Rattle.feed.specs.Feed.{End, whole, inside, Feeding, stopped, further, afterEvent, feedOf}
 use Rattle.feed.specs.Alike.{FedAlike, FeedAgrees}
 use Rattle.feed.proofs.Laws.{feed-none, feed-reads, by-feeding}
 

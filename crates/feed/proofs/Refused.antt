@@ -1,8 +1,8 @@
 -- Which event is refused. Only so: by `by-feeding`. Always so: the bytes before it and those from it on are two pieces, and fed after the first
 -- the second is refused at once. Assumes nothing.
-use Prim.Native.Nat.{ℕ, zero, suc, _+_, _≤_, _<_}
+use Prim.Native.Nat.{ℕ, _+_, _<_}
 use mathlib.Core.Path.{_≡_, refl, sym, ap, subst, _∙_}
-use mathlib.Core.List.{List, [], _∷_, _++_}
+use mathlib.Core.List.{List, [], _++_}
 use native.Mathlib.Nat.{add-zero}
 use native.Mathlib.Omega.{arith}
 use lib.Dec.{eqb}
@@ -11,7 +11,7 @@ use lib.Seq.{drop-drop}
 use borrow.Author.Tests.{eq-eqb, ne-eqb, eqb-true, eqb-false}
 use Rattle.rules.specs.declared.Event.{Event}
 use Rattle.rules.specs.Answers.{Result, refused, gives, Got}
-use Rattle.rules.specs.Order.{outcome, says}
+use Rattle.rules.specs.Order.{says}
 use Rattle.rules.specs.Events.{readOf}
 use Rattle.rules.specs.Layout.{Tracker}
 use Rattle.rules.specs.Calls.{applyOf}
@@ -61,6 +61,19 @@ only = by-feeding (λ bytes s f. (n : ℕ) → f .result ≡ refused n → Refus
 
 -- ---- always so
 
+pub event-refused : (e : Event) (s : Tracker) (n : ℕ) → FirstIs n (applyOrder e s) → applyOf e s .result ≡ refused n
+event-refused e s n x = apply-in-order e s ∙ in-order .always-so (applyOrder e s) tt n x
+
+-- what cannot be read has one refusal, its own, and an incomplete event has none
+pub unread-named : (m n : ℕ) (s : Tracker) → FirstIs n (nextOrder (refused m) s) → (m ≡ n) × (m ≡ 7 → ⊥)
+unread-named m n s x =
+    let refuses : says {A = Unit {0}} (nextOrder (refused m) s) tt ≡ refused n = in-order .always-so (nextOrder (refused m) s) tt n x in
+    cases (eqb m 8)
+    (λ q. let eight = eqb-true m 8 q in (eight ∙ refused-same (rw q at refuses), λ z. omega arith))
+    (λ q. cases (eqb m 10)
+    (λ t. let ten = eqb-true m 10 t in (ten ∙ refused-same (rw (q, t) at refuses), λ z. omega arith))
+    (λ t. absurd (not-both refuses (rw (q, t)))))
+
 -- an event whose first refusal is n stops feeding at once
 module _ (bytes : List ℕ) (s : Tracker) (n : ℕ) where
   some-bytes : {r : Result Got} → readOf bytes ≡ r → (r ≡ refused 7 → ⊥) → 0 < length bytes
@@ -70,16 +83,10 @@ module _ (bytes : List ℕ) (s : Tracker) (n : ℕ) where
 
   at-once : (r : Result Got) → readOf bytes ≡ r → FirstIs n (nextOrder r s) → feedOf bytes s ≡ stopped (refused n) (leftBy r s)
   at-once (refused m) e x =
-      let refuses : says {A = Unit {0}} (nextOrder (refused m) s) tt ≡ refused n = in-order .always-so (nextOrder (refused m) s) tt n x in
-      let stops : (m ≡ 7 → ⊥) → m ≡ n → feedOf bytes s ≡ stopped (refused n) s =
-      λ other is. feed-reads bytes s (some-bytes e (λ z. other (refused-same z))) (refused m) e ∙ rw (ne-eqb m 7 other, is) in
-      cases (eqb m 8)
-      (λ q. let eight = eqb-true m 8 q in stops (λ z. omega arith) (eight ∙ refused-same (rw q at refuses)))
-      (λ q. cases (eqb m 10)
-      (λ t. let ten = eqb-true m 10 t in stops (λ z. omega arith) (ten ∙ refused-same (rw (q, t) at refuses)))
-      (λ t. absurd (not-both refuses (rw (q, t)))))
+      let w = unread-named m n s x in
+      feed-reads bytes s (some-bytes e (λ z. w .1 (refused-same z))) (refused m) e ∙ rw (ne-eqb m 7 (w .1), w .0)
   at-once (gives g) e x =
-      let refuses : applyOf (g .event) s .result ≡ refused n = apply-in-order (g .event) s ∙ in-order .always-so (applyOrder (g .event) s) tt n x in
+      let refuses = event-refused (g .event) s n x in
       apply-either s (g .event)
       (λ left t. absurd (not-both refuses (ap (λ o. o .result) (t .is))))
       (λ m left q.

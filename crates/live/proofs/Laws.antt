@@ -13,7 +13,6 @@ use lib.ListN.{length, getD, take, drop, set, length-set, length-append, length-
 use lib.Seq.{drop-cons, getD-take, take-suc, length-take-le, set-at}
 use borrow.Author.Tests.{eq-eqb, ne-eqb, lt-ltb, le-ltb, ltb-true}
 use Rattle.rules.specs.Lists.{keep, over}
-use Rattle.rules.specs.Settings.{Tables}
 use Rattle.rules.specs.Reference.{firstFrom, firstPlace, toFront, under, largest, keepBelow, lowered}
 use Rattle.rules.proofs.Tests.{cases}
 use Rattle.rules.proofs.Lists.{keep-append, keep-length}

@@ -1,6 +1,6 @@
 // Trace events, read from bytes. Document 01, "Trace events".
 ghost use mathlib.Core.Path.{_≡_};
-ghost use Prim.Native.Nat.{_+_, _≤_};
+ghost use Prim.Native.Nat.{_≤_};
 ghost use lib.ListN.{length, drop};
 ghost use Rattle.rules.specs.Answers.{readingResult};
 ghost use Rattle.rules.specs.Events.{numberAt, setupBodyOf, ifAllThere, readOf, unreadOf};

@@ -12,10 +12,10 @@ use Rattle.rules.specs.Lists.{has}
 use Rattle.rules.specs.declared.Event.the-variants.{Span}
 use Rattle.rules.specs.Reference.{Reply}
 use Rattle.rules.specs.Answers.{refused, gives}
-use Rattle.rules.specs.Order.{Outcome, outcome}
+use Rattle.rules.specs.Order.{outcome}
 use Rattle.rules.specs.Events.{blockBytes, blockOf, lastByte, rising, blocksIn, referencesOf, overrun}
 use Rattle.rules.specs.Layout.{Tracker}
-use Rattle.rules.specs.Calls.{referOf, goingOn, referAll, spanOf}
+use Rattle.rules.specs.Calls.{referOf, referAll, spanOf}
 use Rattle.rules.proofs.Tests.{cases, clash}
 use Rattle.rules.proofs.Order.{not-both}
 use Rattle.rules.proofs.Calls.{refer-accept, refer-either}

@@ -1,13 +1,13 @@
 -- What is written is read back. Assumes nothing.
 use Prim.Native.Nat.{ℕ}
 use mathlib.Core.Path.{_≡_, _∙_}
-use mathlib.Core.List.{List, [], _∷_, _++_}
+use mathlib.Core.List.{List, [], _++_}
 use lib.ListN.{take, drop, take-append-drop}
 use Rattle.rules.specs.declared.Event.{Event}
 use Rattle.rules.specs.declared.Reading.the-variants as reading
 use Rattle.rules.specs.declared.Written.the-variants as written
 use Rattle.rules.specs.Answers.{gives}
-use Rattle.rules.specs.Events.{eventBytes, Fits, readOf}
+use Rattle.rules.specs.Events.{eventBytes, readOf}
 use Rattle.rules.proofs.Answers.{reading-injective}
 use Rattle.rules.proofs.Events.{write-filled}
 use Rattle.rules.proofs.Tables.{over-front}

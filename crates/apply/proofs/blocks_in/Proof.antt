@@ -1,6 +1,6 @@
 use borrow.Author.Needs.{needs}
 use native.Mathlib.Omega.{arith}
-use mathlib.Core.Path.{sym, _∙_}
+use mathlib.Core.Path.{sym}
 use Rattle.rules.proofs.Spans.{blocks-none, blocks-some, last-fits}
 use Rattle.apply.proofs.blocks_in.Statement.{statement}
 use Rattle.apply.proofs.blocks_in.Tie as tie

@@ -4,7 +4,7 @@ use Prim.Native.Nat.{_≤_, _-_}
 use native.Mathlib.Omega.{arith}
 use borrow.Author.Needs.{needs}
 use lib.ListN.{take}
-use Rattle.rules.specs.Settings.{hashOf, Tables}
+use Rattle.rules.specs.Settings.{hashOf}
 use Rattle.rules.specs.Reference.{largest}
 use Rattle.rules.proofs.Tables.{takes}
 use Rattle.live.proofs.Laws.{largest-more}

@@ -1,6 +1,6 @@
 -- The point is answered, so that its line is put; the other case cannot be.
 use mathlib.Core.Path.{_≡_, sym, ap, _∙_}
-use Rattle.rules.specs.Answers.{gives, pointResult}
+use Rattle.rules.specs.Answers.{pointResult}
 use Rattle.rules.proofs.Answers.{gives-same}
 use Rattle.rules.proofs.Order.{not-both}
 use borrow.Author.Needs.{needs}
