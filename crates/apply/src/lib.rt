@@ -1,9 +1,11 @@
 // Applies one trace event to a tracker.
+#![tactic(auto)]
+
 ghost use Rattle.std.specs.Prelude.{◌≡◌, ◌+◌, ◌^◌, ◌≤◌, false, [], ◌∷◌};
 ghost use Rattle.rules.specs.Answers.{taken_result};
 ghost use Rattle.rules.specs.Order.{outcome};
 ghost use Rattle.rules.specs.Events.{settings_of, rising, blocks_in, overrun};
-ghost use Rattle.rules.specs.Layout.{tracker_after, tracker_before};
+ghost use Rattle.rules.specs.Layout.{tracker};
 ghost use Rattle.rules.specs.Calls.{refer_all, apply_of};
 ghost use Rattle.refer.specs.Refer.{skip_result};
 ghost use Rattle.apply.specs.EventCall.{call_of, skip_event, started_on, taken_from};
@@ -15,7 +17,7 @@ use rules::{
 };
 
 // What an event asks for.
-#[derive(Drop)]
+#[derive(Clone, Copy)]
 enum Call {
     // A reference to each of so many locations: this one, and those that follow it.
     References(u64, u64),
@@ -121,8 +123,8 @@ fn refer_one(
     counts: &mut [u64],
     thresholds: &mut [u32],
 ) -> Applied
-    ensures { outcome (taken_result result.answer) (tracker_after result.kept locations counts thresholds)
-        ≡ refer_all (location ∷ []) (tracker_before kept locations counts thresholds) }
+    ensures { outcome (taken_result result.answer) (tracker result.kept locations.new counts.new thresholds.new)
+        ≡ refer_all (location ∷ []) (tracker kept locations.old counts.old thresholds.old) }
 {
     if let Skipping::Counted(after) = refer::skip(kept, location, locations, counts, thresholds) {
         return Applied {
@@ -144,8 +146,8 @@ fn refer_each(
     thresholds: &mut [u32],
 ) -> Applied
     requires { first + number ≤ 2 ^ 64 }
-    ensures { outcome (taken_result result.answer) (tracker_after result.kept locations counts thresholds)
-        ≡ refer_all (rising first number) (tracker_before kept locations counts thresholds) }
+    ensures { outcome (taken_result result.answer) (tracker result.kept locations.new counts.new thresholds.new)
+        ≡ refer_all (rising first number) (tracker kept locations.old counts.old thresholds.old) }
 {
     let mut i: u64 = 0;
     let mut latest = kept;
@@ -176,7 +178,7 @@ pub fn skip(
     counts: &[u64],
     thresholds: &[u32],
 ) -> Skipping
-    ensures { skip_result result ≡ skip_event event (tracker_before kept locations counts thresholds) }
+    ensures { skip_result result ≡ skip_event event (tracker kept locations.now counts.now thresholds.now) }
 {
     match call_of(event) {
         Call::References(location, number) => {
@@ -199,8 +201,8 @@ pub fn apply(
     counts: &mut [u64],
     thresholds: &mut [u32],
 ) -> Applied
-    ensures { outcome (taken_result result.answer) (tracker_after result.kept locations counts thresholds)
-        ≡ apply_of event (tracker_before kept locations counts thresholds) }
+    ensures { outcome (taken_result result.answer) (tracker result.kept locations.new counts.new thresholds.new)
+        ≡ apply_of event (tracker kept locations.old counts.old thresholds.old) }
 {
     match call_of(event) {
         Call::References(first, number) => refer_each(

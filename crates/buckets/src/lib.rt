@@ -1,20 +1,22 @@
 // The histogram in its two lent tables: each bucket's count, in units of 1/256 reference, and the threshold it was last recorded under.
+#![tactic(auto)]
+
 ghost use Rattle.std.specs.Prelude.{◌≡◌, false, ◌≤◌, min, length};
-ghost use Rattle.rules.specs.Layout.{buckets_of, buckets_before};
+ghost use Rattle.rules.specs.Layout.{buckets_of};
 ghost use Rattle.rules.specs.Conditions.{torn_bucket};
 ghost use Rattle.buckets.specs.Buckets.{report_result, recorded, recorded_of, SoFar, added_to, report_of};
 
 use rules::{FULL_RATE, ONE_REFERENCE, Refusal};
 
 // The sums of a report: the hits at a point, and the total.
-#[derive(Drop)]
+#[derive(Clone, Copy)]
 pub struct Sums {
     pub hits: u64,
     pub total: u64,
 }
 
 // The result of a report.
-#[derive(Drop)]
+#[derive(Clone, Copy)]
 pub enum Reported {
     // Its sums.
     Sums(Sums),
@@ -23,14 +25,14 @@ pub enum Reported {
 }
 
 // The sum of some buckets' raw counts, and the sum of their counts as reported.
-#[derive(Drop)]
+#[derive(Clone, Copy)]
 struct Adding {
     raw: u64,
     sum: u64,
 }
 
 // What some buckets add up to, or that one of them is torn or the sum of their raw counts is too large.
-#[derive(Drop)]
+#[derive(Clone, Copy)]
 enum Added {
     // Their sums.
     Whole(Adding),
@@ -62,7 +64,7 @@ pub fn record_in(
     references: u32,
 ) -> bool
     ensures { recorded result counts.new thresholds.new
-        ≡ recorded_of references threshold at (buckets_before counts thresholds) }
+        ≡ recorded_of references threshold at (buckets_of counts.old thresholds.old) }
 {
     if counts.len() <= at {
         return false;
@@ -93,7 +95,7 @@ fn add_up(
 ) -> Added
     requires { (from ≤ to) × (to ≤ length counts.now) × (to ≤ length thresholds.now)
         × SoFar references threshold from (buckets_of counts.now thresholds.now) adding.raw adding.sum }
-    ensures { added_to references threshold to (buckets_before counts thresholds) result }
+    ensures { added_to references threshold to (buckets_of counts.now thresholds.now) result }
 {
     let most = ONE_REFERENCE * (references as u64);
     let mut raw = adding.raw;
@@ -125,7 +127,7 @@ pub fn report(
     threshold: u64,
     references: u32,
 ) -> Reported
-    ensures { report_result result ≡ report_of references threshold needed point (buckets_before counts thresholds) }
+    ensures { report_result result ≡ report_of references threshold needed point (buckets_of counts.now thresholds.now) }
 {
     if (counts.len() < needed) | (thresholds.len() < needed) {
         return Reported::Refused(Refusal::Tables);

@@ -1,7 +1,9 @@
 // Reads trace events from standard input until it ends, and prints the curve. Document 01, "The curve program".
+#![tactic(auto)]
+
 ghost use Rattle.std.specs.Prelude.{◌≡◌, ◌+◌, ◌-◌, ◌≤◌, ◌<◌, length, take, drop};
 ghost use Rattle.rules.specs.Answers.{number_of};
-ghost use Rattle.rules.specs.Layout.{tables_before, tracker_before, buckets_before, tables_after};
+ghost use Rattle.rules.specs.Layout.{tables_of, tracker, buckets_of};
 ghost use Rattle.text.specs.Text.{refused_line, longest_refused, curve_of};
 ghost use Rattle.feed.specs.Feed.{ending_result};
 ghost use Rattle.curve.specs.Program.{first_settings, or_refused, last_text, came_of, Stands, Ready, AfterFed, AfterBytes, AfterRead};
@@ -18,7 +20,7 @@ const MOST_COUNTED: u64 = 0xffff_ffff_fffe_ffff;
 // ---- the input, read in pieces
 
 // The result of one read.
-#[derive(Drop)]
+#[derive(Clone, Copy)]
 enum Came {
     // So many bytes were read.
     Bytes(usize),
@@ -31,7 +33,7 @@ enum Came {
 }
 
 // The result of the program: a text at the front of the buffer, a failed read, or an input too long to count.
-#[derive(Drop)]
+#[derive(Clone, Copy)]
 enum Done {
     // The text to print, of this length.
     Text(usize),
@@ -43,7 +45,7 @@ enum Done {
 
 // The state between reads: the record; how many bytes are left over, at the front of the buffer; the place of the first of them in
 // the input; and how many reads were made.
-#[derive(Drop)]
+#[derive(Clone, Copy)]
 struct Pause {
     kept: Record,
     left: usize,
@@ -52,7 +54,7 @@ struct Pause {
 }
 
 // What follows a read: another read, or the result of the program.
-#[derive(Drop)]
+#[derive(Clone, Copy)]
 enum Next {
     // Another read.
     On(Pause),
@@ -111,7 +113,7 @@ fn put_curve_or_refusal(
     thresholds: &[u32],
 ) -> usize
     requires { (length counts.now ≤ 1026) × (65536 ≤ length out.old) }
-    ensures { Stands (or_refused (curve_of kept (buckets_before counts thresholds)) place) out.new result }
+    ensures { Stands (or_refused (curve_of kept (buckets_of counts.now thresholds.now)) place) out.new result }
 {
     match text::put_curve(out, kept, counts, thresholds) {
         Written::Filled(count) => count,
@@ -129,7 +131,7 @@ fn put_end(
     thresholds: &[u32],
 ) -> usize
     requires { (length counts.now ≤ 1026) × (65536 ≤ length out.old) }
-    ensures { Stands (last_text left place kept (buckets_before counts thresholds)) out.new result }
+    ensures { Stands (last_text left place kept (buckets_of counts.now thresholds.now)) out.new result }
 {
     if 0 < left {
         return put_refusal(out, 7, place);
@@ -181,8 +183,8 @@ fn after_bytes(
     thresholds: &mut [u32],
 ) -> Next
     requires { Ready p × (p.left + count ≤ 65536) × (length buffer.old ≡ 65536) }
-    ensures { AfterBytes p (tables_before locations counts thresholds) buffer.old count
-        result buffer.new (tables_after locations counts thresholds) }
+    ensures { AfterBytes p (tables_of locations.old counts.old thresholds.old) buffer.old count
+        result buffer.new (tables_of locations.new counts.new thresholds.new) }
 {
     let end = p.left + count;
     let kept = p.kept;
@@ -201,8 +203,8 @@ fn after_read(
     thresholds: &mut [u32],
 ) -> Next
     requires { Ready p × (length buffer.old ≡ 65536) × (length counts.old ≤ 1026) }
-    ensures { AfterRead p (tables_before locations counts thresholds) buffer.old
-        (came_of got error (length buffer.old - p.left)) result buffer.new (tables_after locations counts thresholds) }
+    ensures { AfterRead p (tables_of locations.old counts.old thresholds.old) buffer.old
+        (came_of got error (length buffer.old - p.left)) result buffer.new (tables_of locations.new counts.new thresholds.new) }
 {
     let kept = p.kept;
     let left = p.left;
@@ -226,8 +228,8 @@ fn one_read(
     thresholds: &mut [u32],
 ) -> Next
     requires { Ready p × (length buffer.old ≡ 65536) × (length counts.old ≤ 1026) }
-    ensures { OneRead p (tables_before locations counts thresholds) buffer.old
-        result buffer.new (tables_after locations counts thresholds) }
+    ensures { OneRead p (tables_of locations.old counts.old thresholds.old) buffer.old
+        result buffer.new (tables_of locations.new counts.new thresholds.new) }
 {
     let left = p.left;
     let got = libc::read(STDIN_FILENO, &mut buffer[left..]);
@@ -244,7 +246,7 @@ fn follow(
     thresholds: &mut [u32],
 ) -> Done
     requires { (length buffer.old ≡ 65536) × (length counts.old ≤ 1026) }
-    ensures { Tells (tracker_before kept locations counts thresholds) result buffer.new (tables_after locations counts thresholds) }
+    ensures { Tells (tracker kept locations.old counts.old thresholds.old) result buffer.new (tables_of locations.new counts.new thresholds.new) }
 {
     let mut p = Pause {
         kept: kept,
@@ -281,7 +283,7 @@ fn first_settings() -> Settings
 // Runs the program: the first setup, then the input.
 fn run(buffer: &mut [u8], locations: &mut [u64], counts: &mut [u64], thresholds: &mut [u32]) -> Done
     requires { (length buffer.old ≡ 65536) × (length counts.old ≤ 1026) }
-    ensures { TellsOver (tables_before locations counts thresholds) result buffer.new (tables_after locations counts thresholds) }
+    ensures { TellsOver (tables_of locations.old counts.old thresholds.old) result buffer.new (tables_of locations.new counts.new thresholds.new) }
 {
     match setup::setup(first_settings(), locations, counts, thresholds) {
         Started::Ready(kept) => follow(kept, buffer, locations, counts, thresholds),

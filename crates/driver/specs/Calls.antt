@@ -9,7 +9,7 @@ use Rattle.rules.specs.Settings.{hash_of, with_defaults, out_of_range, Histogram
 use Rattle.rules.specs.Answers.{Result, refused, gives, number, number_of, Got}
 use Rattle.rules.specs.Order.{Outcome, outcome, Judged, ◌when◌, by_order}
 use Rattle.rules.specs.Events.{overrun, write_of, read_of}
-use Rattle.rules.specs.Layout.{Tracker, Lent, tables_before, tables_after, fresh}
+use Rattle.rules.specs.Layout.{Tracker, fresh}
 use Rattle.rules.specs.Calls.{setup_order, restart_over, refer_of, span_of, point_of, plot_of, apply_of}
 use Rattle.feed.specs.Feed.{Feeding, feed_of}
 use Rattle.words.specs.declared.AnswerWords.{AnswerWords}
@@ -38,13 +38,6 @@ pub record Held : Type 0 where
 
 abbrev pub held : (words : List ℕ) → Tables → Held
 held words tables = record { words = words; tables = tables }
-
--- as it was lent, and as it is on return
-abbrev pub held_before : (words locations counts thresholds : Lent) → Held
-held_before words locations counts thresholds = held words.entry.now (tables_before locations counts thresholds)
-
-abbrev pub held_after : (words locations counts thresholds : Lent) → Held
-held_after words locations counts thresholds = held words.exit.now (tables_after locations counts thresholds)
 
 -- the tracker that it stands for
 abbrev pub tracker_in : Held → Tracker

@@ -2,10 +2,12 @@
 // version returns a refusal, 0 if it was accepted, alone or as the first field of what it gives. A refused call stores nothing, except that
 // feed keeps what the events before the refused one did, and of a refused span, here or as an event, the references accepted before the
 // refused one stay counted.
+#![tactic(auto)]
+
 ghost use Rattle.std.specs.Prelude.{◌≡◌};
-ghost use Rattle.rules.specs.Layout.{buckets_before};
+ghost use Rattle.rules.specs.Layout.{buckets_of};
 ghost use Rattle.words.specs.Words.{settings_from, shape_from, returned};
-ghost use Rattle.driver.specs.Calls.{version, held_before, held_after, setup_body_from, few_for_setup};
+ghost use Rattle.driver.specs.Calls.{version, held, setup_body_from, few_for_setup};
 ghost use Rattle.rules.specs.Events.{Fits};
 ghost use Rattle.driver.specs.Calls.{hash_in, setup_in, restart_in, refer_in, span_in, point_in, plot_in, apply_in, fed_from, feed_in, read_in, write_in};
 
@@ -58,8 +60,8 @@ pub extern "C" fn rockgingham_setup_v2(
     counts: &mut [u64],
     thresholds: &mut [u32],
 ) -> u64
-    ensures { returned result (held_after words locations counts thresholds)
-        ≡ setup_in (settings_from asked) (held_before words locations counts thresholds) }
+    ensures { returned result (held words.new (tables_of locations.now counts.new thresholds.new))
+        ≡ setup_in (settings_from asked) (held words.old (tables_of locations.now counts.old thresholds.old)) }
 {
     let settings = settings_from(asked);
     if too_few(words) {
@@ -77,8 +79,8 @@ pub extern "C" fn rockgingham_restart(
     counts: &mut [u64],
     thresholds: &mut [u32],
 ) -> u64
-    ensures { returned result (held_after words locations counts thresholds)
-        ≡ restart_in (held_before words locations counts thresholds) }
+    ensures { returned result (held words.new (tables_of locations.now counts.new thresholds.new))
+        ≡ restart_in (held words.old (tables_of locations.now counts.old thresholds.old)) }
 {
     if too_few(words) {
         return judge::number_of(Refusal::Tables);
@@ -96,8 +98,8 @@ pub extern "C" fn rockgingham_refer(
     counts: &mut [u64],
     thresholds: &mut [u32],
 ) -> AnswerWords
-    ensures { returned result (held_after words locations counts thresholds)
-        ≡ refer_in location (held_before words locations counts thresholds) }
+    ensures { returned result (held words.new (tables_of locations.new counts.new thresholds.new))
+        ≡ refer_in location (held words.old (tables_of locations.old counts.old thresholds.old)) }
 {
     if too_few(words) {
         return answer_words(Answer::Refused(Refusal::Tables));
@@ -123,8 +125,8 @@ fn feed_stored(
     counts: &mut [u64],
     thresholds: &mut [u32],
 ) -> FedWords
-    ensures { returned result (held_after words locations counts thresholds)
-        ≡ fed_from bytes.now (held_before words locations counts thresholds) }
+    ensures { returned result (held words.new (tables_of locations.new counts.new thresholds.new))
+        ≡ fed_from bytes.now (held words.old (tables_of locations.old counts.old thresholds.old)) }
 {
     let kept = record_of(words);
     let fed = feed::feed(kept, bytes, locations, counts, thresholds);
@@ -144,8 +146,8 @@ pub extern "C" fn rockgingham_refer_span(
     counts: &mut [u64],
     thresholds: &mut [u32],
 ) -> u64
-    ensures { returned result (held_after words locations counts thresholds)
-        ≡ span_in offset length (held_before words locations counts thresholds) }
+    ensures { returned result (held words.new (tables_of locations.new counts.new thresholds.new))
+        ≡ span_in offset length (held words.old (tables_of locations.old counts.old thresholds.old)) }
 {
     if judge::overruns(offset, length) {
         return judge::number_of(Refusal::Overrun);
@@ -169,7 +171,7 @@ pub extern "C" fn rockgingham_point(
     counts: &[u64],
     thresholds: &[u32],
 ) -> PointWords
-    ensures { result ≡ point_in words.now (shape_from believed) number (buckets_before counts thresholds) }
+    ensures { result ≡ point_in words.now (shape_from believed) number (buckets_of counts.now thresholds.now) }
 {
     if too_few(words) {
         return point_words(Pointed::Refused(Refusal::Tables));
@@ -187,7 +189,7 @@ pub extern "C" fn rockgingham_plot(
     counts: &[u64],
     thresholds: &[u32],
 ) -> PlotWords
-    ensures { result ≡ plot_in words.now (shape_from believed) number (buckets_before counts thresholds) }
+    ensures { result ≡ plot_in words.now (shape_from believed) number (buckets_of counts.now thresholds.now) }
 {
     if too_few(words) {
         return plot_words(Plotted::Refused(Refusal::Tables));
@@ -207,8 +209,8 @@ pub extern "C" fn rockgingham_apply_v2(
     counts: &mut [u64],
     thresholds: &mut [u32],
 ) -> AppliedWords
-    ensures { returned result (held_after words locations counts thresholds)
-        ≡ apply_in bytes.now (held_before words locations counts thresholds) }
+    ensures { returned result (held words.new (tables_of locations.new counts.new thresholds.new))
+        ≡ apply_in bytes.now (held words.old (tables_of locations.old counts.old thresholds.old)) }
 {
     if too_few(words) {
         return applied_words(fed_words(0, Ending::Refused(Refusal::Tables)));
@@ -234,8 +236,8 @@ pub extern "C" fn rockgingham_feed_v2(
     counts: &mut [u64],
     thresholds: &mut [u32],
 ) -> FedWords
-    ensures { returned result (held_after words locations counts thresholds)
-        ≡ feed_in bytes.now (held_before words locations counts thresholds) }
+    ensures { returned result (held words.new (tables_of locations.new counts.new thresholds.new))
+        ≡ feed_in bytes.now (held words.old (tables_of locations.old counts.old thresholds.old)) }
 {
     if too_few(words) {
         return fed_words(0, Ending::Refused(Refusal::Tables));

@@ -1,14 +1,16 @@
 // Feeds the bytes of a trace to a tracker, event by event.
+#![tactic(auto)]
+
 ghost use Rattle.std.specs.Prelude.{◌≡◌};
 ghost use Rattle.rules.specs.Answers.{number};
-ghost use Rattle.rules.specs.Layout.{tracker_before};
+ghost use Rattle.rules.specs.Layout.{tracker};
 ghost use Rattle.feed.specs.Feed.{unreadable, feed_of, ending_result, after_fed};
 
 use refer::Skipping;
 use rules::{Reading, Record, Refusal, Taken};
 
 // Why no more bytes were taken: they end after a whole event, they end inside one, or an event was refused.
-#[derive(Drop)]
+#[derive(Clone, Copy)]
 pub enum Ending {
     // They end after a whole event.
     Whole,
@@ -19,7 +21,7 @@ pub enum Ending {
 }
 
 // The record after feeding, how many bytes were taken, and why no more were. A refused event begins right after the bytes taken.
-#[derive(Drop)]
+#[derive(Clone, Copy)]
 pub struct Fed {
     pub kept: Record,
     pub taken: usize,
@@ -46,7 +48,7 @@ pub fn feed(
     thresholds: &mut [u32],
 ) -> Fed
     ensures { after_fed result locations.new counts.new thresholds.new
-        ≡ feed_of bytes.now (tracker_before kept locations counts thresholds) }
+        ≡ feed_of bytes.now (tracker kept locations.old counts.old thresholds.old) }
 {
     let mut at: usize = 0;
     let mut latest = kept;

@@ -1,4 +1,6 @@
 // The hash of a location, by kind.
+#![tactic(auto)]
+
 ghost use Rattle.std.specs.Prelude.{◌≡◌, ◌*◌, ◌%◌, ◌^◌};
 ghost use Rattle.rules.specs.Settings.{shift_step, finaliser, hash_of};
 

@@ -1,9 +1,11 @@
 // The tests that may refuse a call, each written once, and the refusals' numbers. Every function accepts any arguments.
+#![tactic(auto)]
+
 ghost use Rattle.std.specs.Prelude.{◌≡◌, ltb};
 ghost use Rattle.rules.specs.Settings.{out_of_range, needed, outside};
 ghost use Rattle.rules.specs.Answers.{number};
 ghost use Rattle.rules.specs.Events.{overrun};
-ghost use Rattle.rules.specs.Layout.{tables_before, buckets_before};
+ghost use Rattle.rules.specs.Layout.{tables_of, buckets_of};
 ghost use Rattle.rules.specs.Conditions.{buckets_too_short, too_short, torn_record, full, stale};
 
 use rules::{
@@ -72,14 +74,14 @@ fn shorter(entries: u64, buckets: u64) -> bool
 
 // Whether a bucket table is too short.
 pub fn buckets_too_short(s: Settings, counts: &[u64], thresholds: &[u32]) -> bool
-    ensures { result ≡ buckets_too_short s (buckets_before counts thresholds) }
+    ensures { result ≡ buckets_too_short s (buckets_of counts.now thresholds.now) }
 {
     shorter(counts.len() as u64, s.buckets) | shorter(thresholds.len() as u64, s.buckets)
 }
 
 // Whether a table is too short.
 pub fn too_short(s: Settings, locations: &[u64], counts: &[u64], thresholds: &[u32]) -> bool
-    ensures { result ≡ too_short s (tables_before locations counts thresholds) }
+    ensures { result ≡ too_short s (tables_of locations.now counts.now thresholds.now) }
 {
     ((locations.len() as u64) < s.limit) | buckets_too_short(s, counts, thresholds)
 }

@@ -1,4 +1,6 @@
 // Gets and puts little-endian numbers at a place in bytes. Each public function accepts any place.
+#![tactic(auto)]
+
 ghost use Rattle.std.specs.Prelude.{◌≡◌, ◌+◌, ◌≤◌, leb, length};
 ghost use Rattle.std.proofs.lemmas.List.Edits.{sets};
 ghost use Rattle.rules.specs.Events.{bytes_of, number_at};

@@ -192,18 +192,20 @@ module _ (hash : ℕ → ℕ) (t n x : ℕ) (xs mid : List ℕ) (own fallen numb
   pub stays : own < fallen → lowering (record { threshold = fallen; live = number + 1 }) (moved_to_front number x mid) ≡ lowering_of hash t n x xs
   stays h =
       let q : number ≡ length (keep_below hash fallen (take n xs)) = ap (λ r. r.number) k in
+      let l : hash x < lowered hash t (x ∷ take n xs) = rw (← f.own_is, ← f.fallen_is) h in
       rw (
         ap (λ r. r.table) k,
         q,
-        ← f.fallen_is,
-        ← f.own_is,
-        lt-ltb _ _ h,
-        moved_kept x (keep_below hash fallen (take n xs)) xs (rw (← q) (room h)),
+        f.fallen_is,
+        lt-ltb _ _ l,
+        moved_kept x (keep_below hash (lowered hash t (x ∷ take n xs)) (take n xs)) xs (rw (← f.fallen_is, ← q) (room h)),
         add-one,
       )
 
   pub goes : fallen ≤ own → lowering (record { threshold = fallen; live = number }) mid ≡ lowering_of hash t n x xs
-  goes h = rw (ap (λ r. r.number) k, ap (λ r. r.table) k, ← f.fallen_is, ← f.own_is, le-ltb _ _ h)
+  goes h =
+      let l : lowered hash t (x ∷ take n xs) ≤ hash x = rw (← f.own_is, ← f.fallen_is) h in
+      rw (ap (λ r. r.number) k, ap (λ r. r.table) k, f.fallen_is, le-ltb _ _ l)
 
 -- ---- what a caller needs besides
 

@@ -1,4 +1,6 @@
 // A list of locations at the front of a lent table: its first n entries, or all of them if the table is shorter.
+#![tactic(auto)]
+
 ghost use Rattle.std.specs.Prelude.{◌≡◌, min, max, take};
 ghost use Rattle.rules.specs.Settings.{hash_of};
 ghost use Rattle.rules.specs.Reference.{first_place, largest};
@@ -7,7 +9,7 @@ ghost use Rattle.live.specs.Live.{place_found, moved_to_front, remaining, remain
 use rules::Hashing;
 
 // The result of a search.
-#[derive(Drop)]
+#[derive(Clone, Copy)]
 pub enum Found {
     // The place, counted from 0.
     At(usize),
@@ -16,7 +18,7 @@ pub enum Found {
 }
 
 // The threshold and the number of locations after a lowering.
-#[derive(Drop)]
+#[derive(Clone, Copy)]
 pub struct Lowered {
     pub threshold: u64,
     pub live: usize,

@@ -1,9 +1,11 @@
 // The points of the curve. Each public function accepts any record, believed shape and point number, and tables of any length and
 // contents.
+#![tactic(auto)]
+
 ghost use Rattle.std.specs.Prelude.{◌≡◌, ◌≤◌};
 ghost use Rattle.rules.specs.Settings.{most_buckets, most_width};
 ghost use Rattle.rules.specs.Answers.{point_result, plot_result};
-ghost use Rattle.rules.specs.Layout.{buckets_before};
+ghost use Rattle.rules.specs.Layout.{buckets_of};
 ghost use Rattle.rules.specs.Calls.{point_of, plot_of};
 ghost use Rattle.points.specs.Points.{from_sums};
 
@@ -34,7 +36,7 @@ pub fn point(
     counts: &[u64],
     thresholds: &[u32],
 ) -> Pointed
-    ensures { point_result result ≡ point_of kept believed number (buckets_before counts thresholds) }
+    ensures { point_result result ≡ point_of kept believed number (buckets_of counts.now thresholds.now) }
 {
     if judge::torn(kept) {
         return Pointed::Refused(Refusal::Torn);
@@ -72,7 +74,7 @@ pub fn plot_point(
     counts: &[u64],
     thresholds: &[u32],
 ) -> Plotted
-    ensures { plot_result result ≡ plot_of kept believed number (buckets_before counts thresholds) }
+    ensures { plot_result result ≡ plot_of kept believed number (buckets_of counts.now thresholds.now) }
 {
     match point(kept, believed, number, counts, thresholds) {
         Pointed::At(p) => Plotted::At(PlotPoint {

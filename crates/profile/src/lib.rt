@@ -1,4 +1,6 @@
 // How the curve is cut: the bucket of a scaled distance and the size of a point. No other code knows this.
+#![tactic(auto)]
+
 ghost use Rattle.std.specs.Prelude.{◌≡◌, ℕ, max};
 ghost use Rattle.rules.specs.Reference.{widths};
 

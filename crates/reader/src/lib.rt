@@ -1,34 +1,36 @@
 // A reader holds the lent bytes and its own place in them. Document 01, "Trace events".
 // The borrow checker does not cover functions over such a struct, so `new`, `next`, `left` and `step` are proved by hand. They
 // are thin; the work is done by functions over the bytes and the place.
+#![tactic(auto)]
+
 ghost use Rattle.std.specs.Prelude.{◌≡◌};
 ghost use Rattle.rules.specs.Layout.{part, tail_of};
 ghost use Rattle.reader.specs.Reader.{left_at, step_at, advanced_result, at_front, next_of, moved_result, front_of};
 
 use rules::Reading;
 
-#[derive(Drop)]
+#[derive(Clone, Copy)]
 pub struct Reader<'a> {
     pub src: &'a [u8],
     pub at: usize,
 }
 
 // The reading at a reader's place, and the reader past the event, or at the same place if the event was refused.
-#[derive(Drop)]
+#[derive(Clone, Copy)]
 pub struct Moved<'a> {
     pub reading: Reading,
     pub reader: Reader<'a>,
 }
 
 // The same for plain bytes: the reading at a place, and the place past the event, or the same place if the event was refused.
-#[derive(Drop)]
+#[derive(Clone, Copy)]
 struct Advanced {
     reading: Reading,
     at: usize,
 }
 
 // How many whole events are at the front, and the place of the first refusal.
-#[derive(Drop)]
+#[derive(Clone, Copy)]
 pub struct Front {
     pub events: usize,
     pub at: usize,

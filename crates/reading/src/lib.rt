@@ -1,4 +1,6 @@
 // Trace events, read from bytes. Document 01, "Trace events".
+#![tactic(auto)]
+
 ghost use Rattle.std.specs.Prelude.{◌≡◌, ◌≤◌, length, drop};
 ghost use Rattle.rules.specs.Answers.{reading_result};
 ghost use Rattle.rules.specs.Events.{number_at, setup_body_of, if_all_there, read_of, unread_of};

@@ -1,12 +1,14 @@
 // One reference: the tests, the hash, the live list and the bucket. `refer` accepts any record, any location, and tables of any length
 // and contents.
+#![tactic(auto)]
+
 ghost use Rattle.std.specs.Prelude.{◌≡◌, ◌<◌, ◌≤◌};
 ghost use Rattle.std.proofs.Math.Option.{some, none};
 ghost use Rattle.rules.specs.Settings.{most_references, most_limit};
 ghost use Rattle.rules.specs.Reference.{first_place, scaled_distance};
 ghost use Rattle.rules.specs.Answers.{reply_result};
 ghost use Rattle.rules.specs.Order.{outcome};
-ghost use Rattle.rules.specs.Layout.{tracker, live_of, tracker_after, tracker_before};
+ghost use Rattle.rules.specs.Layout.{tracker, live_of};
 ghost use Rattle.rules.specs.Calls.{refer_of};
 ghost use Rattle.refer.specs.Refer.{referred_of, counted_in, entered_of, Samples, skip_result, skip_of};
 ghost use Rattle.live.specs.Live.{lowering};
@@ -61,8 +63,8 @@ fn again_at(
 ) -> Referred
     requires { Samples location (tracker kept locations.old counts.old thresholds.old)
         × (first_place location (live_of (tracker kept locations.old counts.old thresholds.old)) ≡ some place) }
-    ensures { outcome (reply_result result.answer) (tracker_after result.kept locations counts thresholds)
-        ≡ refer_of location (tracker_before kept locations counts thresholds) }
+    ensures { outcome (reply_result result.answer) (tracker result.kept locations.new counts.new thresholds.new)
+        ≡ refer_of location (tracker kept locations.old counts.old thresholds.old) }
 {
     let threshold = kept.threshold;
     let distance = scaled_distance(place, threshold);
@@ -111,8 +113,8 @@ fn first_time(
 ) -> Referred
     requires { Samples location (tracker kept locations.old counts.old thresholds.old)
         × (first_place location (live_of (tracker kept locations.old counts.old thresholds.old)) ≡ none) }
-    ensures { outcome (reply_result result.answer) (tracker_after result.kept locations counts thresholds)
-        ≡ refer_of location (tracker_before kept locations counts thresholds) }
+    ensures { outcome (reply_result result.answer) (tracker result.kept locations.new counts.new thresholds.new)
+        ≡ refer_of location (tracker kept locations.old counts.old thresholds.old) }
 {
     let threshold = kept.threshold;
     let bucket = (kept.settings.buckets + 1) as usize;
@@ -137,8 +139,8 @@ fn sampled(
     thresholds: &mut [u32],
 ) -> Referred
     requires { Samples location (tracker kept locations.old counts.old thresholds.old) }
-    ensures { outcome (reply_result result.answer) (tracker_after result.kept locations counts thresholds)
-        ≡ refer_of location (tracker_before kept locations counts thresholds) }
+    ensures { outcome (reply_result result.answer) (tracker result.kept locations.new counts.new thresholds.new)
+        ≡ refer_of location (tracker kept locations.old counts.old thresholds.old) }
 {
     match live::first_place(locations, kept.live as usize, location) {
         Found::At(place) => again_at(kept, location, place, locations, counts, thresholds),
@@ -147,7 +149,7 @@ fn sampled(
 }
 
 // Most references: accepted, and not sampled.
-#[derive(Drop)]
+#[derive(Clone, Copy)]
 pub enum Skipping {
     // The reference is Skipped, and this is the record after it.
     Counted(Record),
@@ -164,7 +166,7 @@ pub fn skip(
     counts: &[u64],
     thresholds: &[u32],
 ) -> Skipping
-    ensures { skip_result result ≡ skip_of location (tracker_before kept locations counts thresholds) }
+    ensures { skip_result result ≡ skip_of location (tracker kept locations.now counts.now thresholds.now) }
 {
     if judge::torn(kept) {
         return Skipping::Not;
@@ -189,8 +191,8 @@ pub fn refer(
     counts: &mut [u64],
     thresholds: &mut [u32],
 ) -> Referred
-    ensures { outcome (reply_result result.answer) (tracker_after result.kept locations counts thresholds)
-        ≡ refer_of location (tracker_before kept locations counts thresholds) }
+    ensures { outcome (reply_result result.answer) (tracker result.kept locations.new counts.new thresholds.new)
+        ≡ refer_of location (tracker kept locations.old counts.old thresholds.old) }
 {
     if judge::torn(kept) {
         return refused(kept, Refusal::Torn);

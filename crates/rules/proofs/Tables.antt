@@ -87,7 +87,7 @@ from_place_lem s at = take_all (length s - at) (drop at s) (simp length-drop (om
 
 -- the part of lent bytes from a place on, as the machine takes it
 abbrev pub from_place : Bor (List ℕ) → (at : ℕ) → Bor (List ℕ)
-from_place r at = record { ref_ptr = (r.ref_ptr.0, at + r.ref_ptr.1); ghost_name = r.ghost_name; now = take (length r.now - at) (drop at r.now) }
+from_place r at = record { ref_ptr = (r.ref_ptr.0, at + r.ref_ptr.1); now = take (length r.now - at) (drop at r.now) }
 
 -- it is the tail that follows the place
 pub tail_from : (r : Bor (List ℕ)) (at : ℕ) → at ≤ length r.now → part (from_place r at) ≡ tail_of r (drop at r.now)

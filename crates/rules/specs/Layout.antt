@@ -1,7 +1,6 @@
 -- Where the record, the list and the buckets stand in what is lent, and what a step and a fresh start leave there. Assumes nothing.
 use Rattle.std.specs.Prelude.{ℕ, ◌+◌, List, length, take, replicate}
 use Rattle.std.specs.Borrow.{Bor}
-use denote.Triple.Both.{Both}
 use Rattle.rules.specs.declared.Settings.{Settings}
 use Rattle.rules.specs.declared.Numbers.{Numbers}
 use Rattle.rules.specs.declared.Record.{Record}
@@ -22,30 +21,6 @@ tables_of locations counts thresholds = record { locations = locations; histogra
 
 abbrev pub tracker : Record → (locations counts thresholds : List ℕ) → Tracker
 tracker kept locations counts thresholds = record { kept = kept; tables = tables_of locations counts thresholds }
-
--- ---- what a promise says of the lent tables: as they were handed over, and as they are on return
-
--- a lent slice, at entry and at exit
-abbrev pub Lent : Type 0
-Lent = Both (Bor (List ℕ)) (Bor (List ℕ))
-
-abbrev pub buckets_before : (counts thresholds : Lent) → Histogram
-buckets_before counts thresholds = buckets_of counts.entry.now thresholds.entry.now
-
-abbrev pub buckets_after : (counts thresholds : Lent) → Histogram
-buckets_after counts thresholds = buckets_of counts.exit.now thresholds.exit.now
-
-abbrev pub tables_before : (locations counts thresholds : Lent) → Tables
-tables_before locations counts thresholds = record { locations = locations.entry.now; histogram = buckets_before counts thresholds }
-
-abbrev pub tables_after : (locations counts thresholds : Lent) → Tables
-tables_after locations counts thresholds = record { locations = locations.exit.now; histogram = buckets_after counts thresholds }
-
-abbrev pub tracker_before : Record → (locations counts thresholds : Lent) → Tracker
-tracker_before kept locations counts thresholds = record { kept = kept; tables = tables_before locations counts thresholds }
-
-abbrev pub tracker_after : Record → (locations counts thresholds : Lent) → Tracker
-tracker_after kept locations counts thresholds = record { kept = kept; tables = tables_after locations counts thresholds }
 
 -- ---- what a promise says of a part that is handed back
 

@@ -1,5 +1,6 @@
 // The types that the crates share: settings, the record, the answers, the trace events; and the numbers of document 01. There are no
 // functions here.
+#![tactic(auto)]
 
 // P, full rate: every hash is below it, so a threshold of P samples every location.
 pub const FULL_RATE: u64 = 0x100_0000;
@@ -41,13 +42,13 @@ pub const RESTART_BYTES: usize = 1;
 pub const SETUP_BYTES: usize = 18;
 
 // The hash that is used for locations.
-#[derive(Drop)]
+#[derive(Clone, Copy)]
 pub struct Hashing {
     pub kind: u64,
 }
 
 // The settings: sample limit S, starting threshold T0, bucket width W in blocks, buckets B, and the hash.
-#[derive(Drop)]
+#[derive(Clone, Copy)]
 pub struct Settings {
     pub limit: u64,
     pub start: u64,
@@ -57,14 +58,14 @@ pub struct Settings {
 }
 
 // The number of references since the last fresh start, and how many of them were sampled.
-#[derive(Drop)]
+#[derive(Clone, Copy)]
 pub struct Numbers {
     pub references: u64,
     pub sampled: u64,
 }
 
 // The record: what a tracker holds besides its tables. Its settings are those after defaults.
-#[derive(Drop)]
+#[derive(Clone, Copy)]
 pub struct Record {
     pub settings: Settings,
     pub threshold: u64,
@@ -73,14 +74,14 @@ pub struct Record {
 }
 
 // The shape that a caller believes the curve to have.
-#[derive(Drop)]
+#[derive(Clone, Copy)]
 pub struct Shape {
     pub buckets: u64,
     pub width: u64,
 }
 
 // The refusals, by name.
-#[derive(Drop)]
+#[derive(Clone, Copy)]
 pub enum Refusal {
     // A setting is outside its range.
     Settings,
@@ -105,7 +106,7 @@ pub enum Refusal {
 }
 
 // The answer to a setup or a restart.
-#[derive(Drop)]
+#[derive(Clone, Copy)]
 pub enum Started {
     // The record of a fresh start.
     Ready(Record),
@@ -114,7 +115,7 @@ pub enum Started {
 }
 
 // The answer to a reference.
-#[derive(Drop)]
+#[derive(Clone, Copy)]
 pub enum Answer {
     // The location is not sampled.
     Skipped,
@@ -127,14 +128,14 @@ pub enum Answer {
 }
 
 // The answer to a reference, and the record after it.
-#[derive(Drop)]
+#[derive(Clone, Copy)]
 pub struct Referred {
     pub kept: Record,
     pub answer: Answer,
 }
 
 // A point of the curve: its size in blocks, and hits, misses and total in units of 1/256 reference.
-#[derive(Drop)]
+#[derive(Clone, Copy)]
 pub struct Point {
     pub size: u64,
     pub hits: u64,
@@ -143,7 +144,7 @@ pub struct Point {
 }
 
 // The answer to a request for a point.
-#[derive(Drop)]
+#[derive(Clone, Copy)]
 pub enum Pointed {
     // The point.
     At(Point),
@@ -152,14 +153,14 @@ pub enum Pointed {
 }
 
 // A point as the desk plotter expects it: the size, and misses divided by total.
-#[derive(Drop)]
+#[derive(Clone, Copy)]
 pub struct PlotPoint {
     pub size: f64,
     pub ratio: f64,
 }
 
 // The answer to a request for a point as a pair of doubles.
-#[derive(Drop)]
+#[derive(Clone, Copy)]
 pub enum Plotted {
     // The pair.
     At(PlotPoint),
@@ -168,7 +169,7 @@ pub enum Plotted {
 }
 
 // The body of a kind 4 event, exactly as in its bytes: zeros are not replaced by defaults.
-#[derive(Drop)]
+#[derive(Clone, Copy)]
 pub struct SetupBody {
     pub limit: u32,
     pub start: u32,
@@ -178,7 +179,7 @@ pub struct SetupBody {
 }
 
 // The trace events, kinds 1 to 4.
-#[derive(Drop)]
+#[derive(Clone, Copy)]
 pub enum Event {
     // One reference to a location.
     Location(u64),
@@ -191,7 +192,7 @@ pub enum Event {
 }
 
 // The result of reading.
-#[derive(Drop)]
+#[derive(Clone, Copy)]
 pub enum Reading {
     // An event, with the number of bytes it took.
     Got(Event, usize),
@@ -200,7 +201,7 @@ pub enum Reading {
 }
 
 // The result of writing.
-#[derive(Drop)]
+#[derive(Clone, Copy)]
 pub enum Written {
     // How many bytes were filled.
     Filled(usize),
@@ -209,7 +210,7 @@ pub enum Written {
 }
 
 // The answer to a trace event.
-#[derive(Drop)]
+#[derive(Clone, Copy)]
 pub enum Taken {
     // The event was accepted.
     Whole,
@@ -218,7 +219,7 @@ pub enum Taken {
 }
 
 // The answer to a trace event, and the record after it, also beside a refusal.
-#[derive(Drop)]
+#[derive(Clone, Copy)]
 pub struct Applied {
     pub kept: Record,
     pub answer: Taken,

@@ -1,10 +1,12 @@
 // Fresh starts: setup and restart. Both accept any settings or record, and tables of any length and contents.
+#![tactic(auto)]
+
 ghost use Rattle.std.specs.Prelude.{◌≡◌, false, ◌≤◌, length, replicate};
 ghost use Rattle.rules.specs.Lists.{over};
 ghost use Rattle.rules.specs.Settings.{with_defaults, or_default, out_of_range};
 ghost use Rattle.rules.specs.Answers.{started_result};
 ghost use Rattle.rules.specs.Order.{outcome};
-ghost use Rattle.rules.specs.Layout.{buckets_of, fresh_buckets, fresh_record, tables_before, buckets_before, tables_after, buckets_after};
+ghost use Rattle.rules.specs.Layout.{buckets_of, fresh_buckets, fresh_record, tables_of};
 ghost use Rattle.rules.specs.Conditions.{buckets_too_short};
 ghost use Rattle.rules.specs.Calls.{setup_of, restart_of};
 
@@ -51,7 +53,7 @@ fn clear(counts: &mut [u64], thresholds: &mut [u32], n: usize, start: u32)
 fn begin(s: Settings, counts: &mut [u64], thresholds: &mut [u32]) -> Record
     requires { (out_of_range s ≡ false) × (buckets_too_short s (buckets_of counts.old thresholds.old) ≡ false) }
     ensures value { result ≡ fresh_record s }
-    ensures thresholds_value { buckets_after counts thresholds ≡ fresh_buckets s (buckets_before counts thresholds) }
+    ensures thresholds_value { buckets_of counts.new thresholds.new ≡ fresh_buckets s (buckets_of counts.old thresholds.old) }
 {
     let start = s.start;
     clear(counts, thresholds, (s.buckets + 2) as usize, start as u32);
@@ -73,8 +75,8 @@ pub fn setup(
     counts: &mut [u64],
     thresholds: &mut [u32],
 ) -> Started
-    ensures { outcome (started_result result) (tables_after locations counts thresholds)
-        ≡ setup_of given (tables_before locations counts thresholds) }
+    ensures { outcome (started_result result) (tables_of locations.now counts.new thresholds.new)
+        ≡ setup_of given (tables_of locations.now counts.old thresholds.old) }
 {
     let s = with_defaults(given);
     if judge::out_of_range(s) {
@@ -93,8 +95,8 @@ pub fn restart(
     counts: &mut [u64],
     thresholds: &mut [u32],
 ) -> Started
-    ensures { outcome (started_result result) (tables_after locations counts thresholds)
-        ≡ restart_of kept (tables_before locations counts thresholds) }
+    ensures { outcome (started_result result) (tables_of locations.now counts.new thresholds.new)
+        ≡ restart_of kept (tables_of locations.now counts.old thresholds.old) }
 {
     if judge::torn(kept) {
         return Started::Refused(Refusal::Torn);

@@ -1,8 +1,10 @@
 // Writes the curve as text, or the line for a refused event, at the front of a buffer. Document 01, "The curve program".
+#![tactic(auto)]
+
 ghost use Rattle.std.specs.Prelude.{◌≡◌, false, ◌++◌, ◌+◌, ◌*◌, ◌≤◌, length};
 ghost use Rattle.rules.specs.Answers.{gives, point_result, written_result};
 ghost use Rattle.rules.specs.Order.{outcome};
-ghost use Rattle.rules.specs.Layout.{buckets_of, buckets_before};
+ghost use Rattle.rules.specs.Layout.{buckets_of};
 ghost use Rattle.rules.specs.Calls.{point_on, own_point};
 ghost use Rattle.text.specs.Text.{decimal, newline, first_line, point_line, lines_to, Given, Judges, Adds, curve_in, refused_in};
 ghost use Rattle.text.specs.Text.{longest_first, longest_point};
@@ -91,7 +93,7 @@ fn put_point_line(out: &mut [u8], at: usize, p: Point) -> usize
 
 // A point, for the record's own shape.
 fn point_at(kept: Record, number: u64, counts: &[u64], thresholds: &[u32]) -> Pointed
-    ensures { point_result result ≡ own_point kept number (buckets_before counts thresholds) }
+    ensures { point_result result ≡ own_point kept number (buckets_of counts.now thresholds.now) }
 {
     let shape = Shape {
         buckets: kept.settings.buckets,
@@ -111,7 +113,7 @@ fn put_point(
 ) -> usize
     requires longest_point_in_bounds { at + longest_point ≤ length out.old }
     requires given { Given kept number (buckets_of counts.now thresholds.now) }
-    ensures adds { Adds out.old at (point_line (point_on kept number (buckets_before counts thresholds))) out.new result }
+    ensures adds { Adds out.old at (point_line (point_on kept number (buckets_of counts.now thresholds.now))) out.new result }
     ensures upper_bound { result ≤ at + longest_point }
 {
     match point_at(kept, number, counts, thresholds) {
@@ -124,7 +126,7 @@ fn put_point(
 fn put_points(out: &mut [u8], at: usize, kept: Record, counts: &[u64], thresholds: &[u32]) -> usize
     requires buckets_in_bounds { at + longest_point * (kept.settings.buckets + 1) ≤ length out.old }
     requires judges { Judges kept (buckets_of counts.now thresholds.now) (gives false) }
-    ensures adds { Adds out.old at (lines_to (kept.settings.buckets + 1) kept (buckets_before counts thresholds)) out.new result }
+    ensures adds { Adds out.old at (lines_to (kept.settings.buckets + 1) kept (buckets_of counts.now thresholds.now)) out.new result }
     ensures upper_bound { result ≤ at + longest_point * (kept.settings.buckets + 1) }
 {
     let last = kept.settings.buckets;
@@ -148,7 +150,7 @@ fn put_given(
     thresholds: &[u32],
 ) -> Written
     requires { Judges kept (buckets_of counts.now thresholds.now) (gives empty) }
-    ensures { outcome (written_result result) out.new ≡ curve_in kept (buckets_before counts thresholds) out.old }
+    ensures { outcome (written_result result) out.new ≡ curve_in kept (buckets_of counts.now thresholds.now) out.old }
 {
     let points = kept.settings.buckets as usize + 1;
     if out.len() < LONGEST_FIRST + LONGEST_POINT * points + 4 {
@@ -165,7 +167,7 @@ fn put_given(
 // Writes the curve and returns its length. It is refused, and nothing is changed, if the record is torn, a table is too short, a
 // bucket is torn, or the buffer might be too short for a curve with so many buckets.
 pub fn put_curve(out: &mut [u8], kept: Record, counts: &[u64], thresholds: &[u32]) -> Written
-    ensures { outcome (written_result result) out.new ≡ curve_in kept (buckets_before counts thresholds) out.old }
+    ensures { outcome (written_result result) out.new ≡ curve_in kept (buckets_of counts.now thresholds.now) out.old }
 {
     match point_at(kept, 0, counts, thresholds) {
         Pointed::At(_) => put_given(out, false, kept, counts, thresholds),

@@ -1,5 +1,7 @@
 // The record, the settings and the answers of calls in the forms in which they cross to C: words of 64 bits, lent or in structs. A struct
 // that a call gives has the refusal first, 0 if the call was accepted; if it is not 0, all other fields are 0, except those of FedWords.
+#![tactic(auto)]
+
 ghost use Rattle.std.specs.Prelude.{◌≡◌, get_or};
 ghost use Rattle.rules.specs.Answers.{started_result, reply_result, point_result, plot_result, reading_result, written_result};
 ghost use Rattle.feed.specs.Feed.{ending_result};
@@ -23,7 +25,7 @@ const ACCEPTED: u64 = 0;
 
 // The settings asked for. A zero stands for the default, except for the hash kind.
 #[repr(C)]
-#[derive(Drop)]
+#[derive(Clone, Copy)]
 pub struct AskedSettings {
     pub limit: u64,
     pub start: u64,
@@ -34,7 +36,7 @@ pub struct AskedSettings {
 
 // The shape that the caller believes the curve to have.
 #[repr(C)]
-#[derive(Drop)]
+#[derive(Clone, Copy)]
 pub struct Believed {
     pub buckets: u64,
     pub width: u64,
@@ -160,7 +162,7 @@ pub fn store_started(words: &mut [u64], answer: Started) -> u64
 
 // A reference: 0 Skipped, 1 Again with the distance, 2 First.
 #[repr(C)]
-#[derive(Drop)]
+#[derive(Clone, Copy)]
 pub struct AnswerWords {
     pub refusal: u64,
     pub reply: u64,
@@ -169,7 +171,7 @@ pub struct AnswerWords {
 
 // A point of the curve.
 #[repr(C)]
-#[derive(Drop)]
+#[derive(Clone, Copy)]
 pub struct PointWords {
     pub refusal: u64,
     pub size: u64,
@@ -180,7 +182,7 @@ pub struct PointWords {
 
 // The same point as a pair of doubles: the size, and misses divided by total.
 #[repr(C)]
-#[derive(Drop)]
+#[derive(Clone, Copy)]
 pub struct PlotWords {
     pub refusal: u64,
     pub size: f64,
@@ -189,7 +191,7 @@ pub struct PlotWords {
 
 // An event: its kind, how many bytes it took, and its numbers; those that its kind does not have are 0.
 #[repr(C)]
-#[derive(Drop)]
+#[derive(Clone, Copy)]
 pub struct EventWords {
     pub refusal: u64,
     pub kind: u64,
@@ -202,7 +204,7 @@ pub struct EventWords {
 
 // An event that was applied: how many bytes it took.
 #[repr(C)]
-#[derive(Drop)]
+#[derive(Clone, Copy)]
 pub struct AppliedWords {
     pub refusal: u64,
     pub taken: u64,
@@ -210,7 +212,7 @@ pub struct AppliedWords {
 
 // An event that was written: how many bytes it has.
 #[repr(C)]
-#[derive(Drop)]
+#[derive(Clone, Copy)]
 pub struct WrittenWords {
     pub refusal: u64,
     pub length: u64,
@@ -218,7 +220,7 @@ pub struct WrittenWords {
 
 // A piece of a trace: how many bytes were taken, and whether the bytes after them are the beginning of an event.
 #[repr(C)]
-#[derive(Drop)]
+#[derive(Clone, Copy)]
 pub struct FedWords {
     pub refusal: u64,
     pub taken: u64,

@@ -1,4 +1,6 @@
 // Trace events, written to bytes. Document 01, "Trace events".
+#![tactic(auto)]
+
 ghost use Rattle.std.specs.Prelude.{◌≡◌, ◌≤◌, length};
 ghost use Rattle.std.proofs.lemmas.List.Edits.{sets};
 ghost use Rattle.rules.specs.Answers.{written_result};

@@ -1,0 +1,27 @@
+use mathlib.Core.Path.{◌≡◌, refl, ap, ◌∙◌}
+use Prim.Native.Nat.{◌≤◌, ◌-◌}
+use native.Mathlib.Omega.{arith}
+use borrow.Author.Rules.{rules}
+use lib.ListN.{take}
+use Rattle.rules.specs.Settings.{hash_of}
+use Rattle.rules.specs.Reference.{largest}
+use Rattle.rules.proofs.Tables.{takes}
+use Rattle.live.proofs.Laws.{largest_more}
+use Rattle.live.proofs.largest_hash.Goals as goal
+
+pub loop-i-init : goal.loop-i-init
+unfolding largest
+loop-i-init c = (omega arith, refl)
+
+pub loop-i-preserved : goal.loop-i-preserved
+loop-i-preserved c =
+    let b = c in
+    let a = b.args in (
+      omega arith,
+      rw (
+        largest_more (hash_of a.hashing) a.locations.now b.loop-i.i (omega arith),
+        c.larger-most.ensures,
+        c.hash_of.ensures,
+        ← b.loop-i.invariant.1,
+      ),
+    )
