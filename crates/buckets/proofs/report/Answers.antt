@@ -11,9 +11,8 @@ returns-then-counts-needed c = report_short _ _ _ _ _ c.if-counts-needed.true
 
 pub add_up-requires : goal.add_up-requires
 add_up-requires c =
-    let tested = c in
-    let a = tested.args in
-    let long = both_long a.needed (buckets_of a.counts.now a.thresholds.now) tested.if-counts-needed.false in
+    let a = c.args in
+    let long = both_long a.needed (buckets_of a.counts.now a.thresholds.now) c.if-counts-needed.false in
     (omega arith, omega (arith, long.counts_long), omega (arith, long.thresholds_long), so_far_none _ _ _)
 
 pub returns-in_default : goal.returns-in_default

@@ -5,5 +5,4 @@ use Rattle.judge.proofs.out_of_range.Goals as goal
 pub returns : goal.returns
 unfolding out_of_range
 returns c =
-    let last = c in
-    rw (last.outside.ensures, last.outside-2.ensures, last.outside-3.ensures, last.outside-4.ensures)
+    rw (c.outside.ensures, c.outside-2.ensures, c.outside-3.ensures, c.outside-4.ensures)

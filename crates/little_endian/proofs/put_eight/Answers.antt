@@ -7,8 +7,7 @@ use Rattle.little_endian.proofs.put_eight.Goals as goal
 
 pub returns-then-there : goal.returns-then-there
 returns-then-there c =
-    let d = c in
-    c.fill_eight.ensures ∙ sym (put_there 8 _ _ _ (leb-true _ _ (sym d.there.ensures ∙ d.if-there.true)))
+    c.fill_eight.ensures ∙ sym (put_there 8 _ _ _ (leb-true _ _ (sym c.there.ensures ∙ c.if-there.true)))
 
 pub returns-else-there : goal.returns-else-there
 returns-else-there c = sym (put_none 8 _ c.args.x _ (sym c.there.ensures ∙ c.if-there.false))

@@ -7,8 +7,7 @@ use Rattle.little_endian.proofs.put_one.Goals as goal
 
 pub returns-then-there : goal.returns-then-there
 returns-then-there c =
-    let d = c in
-    c.fill_one.ensures ∙ sym (put_there 1 _ _ _ (leb-true _ _ (sym d.there.ensures ∙ d.if-there.true)))
+    c.fill_one.ensures ∙ sym (put_there 1 _ _ _ (leb-true _ _ (sym c.there.ensures ∙ c.if-there.true)))
 
 pub returns-else-there : goal.returns-else-there
 returns-else-there c = sym (put_none 1 _ c.args.x _ (sym c.there.ensures ∙ c.if-there.false))

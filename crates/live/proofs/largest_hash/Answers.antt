@@ -15,13 +15,12 @@ loop-i-init c = (omega arith, refl)
 
 pub loop-i-preserved : goal.loop-i-preserved
 loop-i-preserved c =
-    let b = c in
-    let a = b.args in (
+    let a = c.args in (
       omega arith,
       rw (
-        largest_more (hash_of a.hashing) a.locations.now b.loop-i.i (omega arith),
+        largest_more (hash_of a.hashing) a.locations.now c.loop-i.i (omega arith),
         c.larger-most.ensures,
         c.hash_of.ensures,
-        ← b.loop-i.invariant.1,
+        ← c.loop-i.invariant.1,
       ),
     )

@@ -10,16 +10,13 @@ use Rattle.live.proofs.lower.Goals as goal
 
 pub returns-then-own-fallen : goal.returns-then-own-fallen
 returns-then-own-fallen c =
-    let known : (let h = c in let a = h.args in Fallen (hash_of a.hashing) a.threshold a.n a.location a.locations.now h.hash_of-own.result c.smaller-fallen.result) = let l = c in
-    falls _ _ _ _ _ l.hash_of-own.ensures l.largest_hash-others.ensures c.larger.ensures
+    let known : (let a = c.args in Fallen (hash_of a.hashing) a.threshold a.n a.location a.locations.now c.hash_of-own.result c.smaller-fallen.result) = falls _ _ _ _ _ c.hash_of-own.ensures c.largest_hash-others.ensures c.larger.ensures
     c.smaller-fallen.ensures in
     ap (lowering _) c.to_front.ensures
     ∙ stays _ _ _ _ _ _ _ _ _ known c.keep_below-number.ensures c.if-own-fallen.true
 
 pub returns : goal.returns
 returns c =
-    let known : (let h = c in let a = h.args in Fallen (hash_of a.hashing) a.threshold a.n a.location a.locations.now h.hash_of-own.result c.smaller-fallen.result) = let l = c in
-    falls _ _ _ _ _ l.hash_of-own.ensures l.largest_hash-others.ensures c.larger.ensures
+    let known : (let a = c.args in Fallen (hash_of a.hashing) a.threshold a.n a.location a.locations.now c.hash_of-own.result c.smaller-fallen.result) = falls _ _ _ _ _ c.hash_of-own.ensures c.largest_hash-others.ensures c.larger.ensures
     c.smaller-fallen.ensures in
-    let cut = c in
-    goes _ _ _ _ _ _ _ _ _ known cut.keep_below-number.ensures c.if-own-fallen.false
+    goes _ _ _ _ _ _ _ _ _ known c.keep_below-number.ensures c.if-own-fallen.false

@@ -9,11 +9,9 @@ returns-then-locations-place c = moved_none _ _ _ c.if-locations-place.true
 
 pub loop-i-preserved : goal.loop-i-preserved
 loop-i-preserved c =
-    let b = c in
-    shift_more _ _ (omega arith) _ b.loop-i.i (omega arith) b.loop-i.invariant
+    shift_more _ _ (omega arith) _ c.loop-i.i (omega arith) c.loop-i.invariant
 
 pub returns : goal.returns
 returns c =
-    let b = c in
-    let e : b.loop-i.i ≡ 0 = omega arith in
-    shift_end _ _ (omega arith) _ _ (rw e at b.loop-i.invariant)
+    let e : c.loop-i.i ≡ 0 = omega arith in
+    shift_end _ _ (omega arith) _ _ (rw e at c.loop-i.invariant)
