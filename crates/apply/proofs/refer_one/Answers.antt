@@ -1,0 +1,12 @@
+-- Skipped, or by what `refer` answers.
+use mathlib.Core.Path.{sym, ap, ◌∙◌}
+use borrow.Author.Rules.{rules}
+use Rattle.refer.specs.Refer.{skip_result}
+use Rattle.apply.proofs.Applying.{one_reference_lem, one_skipped}
+use Rattle.apply.proofs.refer_one.Goals as goal
+
+pub returns-in-Counted : goal.returns-in-Counted
+returns-in-Counted c = one_skipped _ _ _ _ _ c.in-Counted.ensures
+
+pub returns : goal.returns
+returns c = rw c.taken.ensures (one_reference_lem _ _ c.refer.result _ _ _ c.refer.ensures)
