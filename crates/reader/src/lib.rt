@@ -1,6 +1,5 @@
 // A reader holds the lent bytes and its own place in them. Document 01, "Trace events".
-// The borrow checker does not cover functions over such a struct, so `new`, `next`, `left` and `step` are proved by hand. They
-// are thin; the work is done by functions over the bytes and the place.
+// `new`, `next`, `left` and `step` are thin; the work is done by functions over the bytes and the place.
 #![tactic(auto)]
 
 ghost use Rattle.std.specs.Prelude.{◌≡◌};
@@ -89,7 +88,7 @@ pub fn left<'a>(r: Reader<'a>) -> &'a [u8]
     left_at(r.src, r.at)
 }
 
-// `next` with plain parameters, so that no caller needs a proof by hand.
+// `next` with plain parameters.
 fn step(bytes: &[u8], at: usize) -> Advanced
     ensures { advanced_result result ≡ step_at bytes.now at }
 {
