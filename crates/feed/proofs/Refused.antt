@@ -1,6 +1,6 @@
 -- Which event is refused. Only so: by `by_feeding`. Always so: the bytes before it and those from it on are two pieces, and fed after the first
 -- the second is refused at once. Assumes nothing.
-use Prim.Native.Nat.{ℕ, ◌+◌, ◌<◌}
+use Prim.Native.Nat.{ℕ, ◌<◌}
 use mathlib.Core.Path.{◌≡◌, refl, sym, ap, subst, ◌∙◌}
 use mathlib.Core.List.{List, [], ◌++◌}
 use native.Mathlib.Nat.{add-zero}

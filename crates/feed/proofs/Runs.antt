@@ -12,7 +12,7 @@ use Rattle.rules.specs.Events.{read_of, fresh_start}
 use Rattle.rules.specs.Layout.{Tracker}
 use Rattle.rules.specs.History.{Reference}
 use Rattle.rules.proofs.Tests.{cases, clash}
-use Rattle.rules.proofs.Events.{read_empty, taken}
+use Rattle.rules.proofs.Events.{read_empty}
 use Rattle.demands.specs.Spans.{Made, none as nothing, more}
 use Rattle.demands.specs.Needed.{needed_by, SameBeyond, settings_under, most_needed}
 use Rattle.demands.proofs.Spans.{made_continues}

@@ -1,8 +1,5 @@
 -- By the call that the event asks for: references, a restart, a setup or none since it overruns, each by its law in `Applying`.
-use mathlib.Core.Path.{sym, ◌∙◌}
-use Rattle.rules.proofs.HeldEvents.{held_fits}
-use Rattle.apply.proofs.Applying.{call_fits, apply_references, apply_restart, apply_setup, apply_overrun}
-use borrow.Author.Rules.{rules}
+use Rattle.apply.proofs.Applying.{apply_references, apply_restart, apply_setup, apply_overrun}
 use Rattle.apply.proofs.apply.Goals as goal
 
 pub returns-in-References : goal.returns-in-References

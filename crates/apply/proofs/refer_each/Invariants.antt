@@ -1,11 +1,9 @@
 -- The loop keeps `Going`: so many references are made, and the rest are to make. Each turn is one reference, and one that is refused ends it.
-use borrow.Author.Rules.{rules}
-use native.Mathlib.Omega.{arith}
 use Prim.Native.Nat.{◌-◌}
-use mathlib.Core.Path.{◌≡◌, refl, sym}
+use mathlib.Core.Path.{◌≡◌}
 use lib.ListN.{length}
 use Rattle.rules.specs.Layout.{tracker}
-use Rattle.rules.proofs.Spans.{Going, going_none, goes_on, goes_refused, goes_whole}
+use Rattle.rules.proofs.Spans.{Going}
 use Rattle.apply.proofs.refer_each.Given as goal
 
 abbrev pub invariant-loop-i : goal.invariant-loop-i

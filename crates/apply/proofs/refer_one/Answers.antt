@@ -1,7 +1,4 @@
 -- Skipped, or by what `refer` answers.
-use mathlib.Core.Path.{sym, ap, ◌∙◌}
-use borrow.Author.Rules.{rules}
-use Rattle.refer.specs.Refer.{skip_result}
 use Rattle.apply.proofs.Applying.{one_reference_lem, one_skipped}
 use Rattle.apply.proofs.refer_one.Goals as goal
 

@@ -8,7 +8,6 @@ use Rattle.rules.specs.Layout.{profile_of}
 use Rattle.rules.proofs.Bounds.{Whole}
 use Rattle.live.proofs.Laws.{found_below}
 use Rattle.refer.proofs.OneReference.{bounds, countable, threshold_some, nothing_recorded, again_done}
-use borrow.Author.Rules.{rules}
 use Rattle.refer.proofs.again_at.Goals as goal
 
 pub scaled_distance-distance-requires : goal.scaled_distance-distance-requires

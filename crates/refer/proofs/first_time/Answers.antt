@@ -4,7 +4,6 @@ use native.Mathlib.Omega.{arith}
 use mathlib.Core.Path.{refl}
 use Rattle.rules.proofs.Bounds.{Whole}
 use Rattle.refer.proofs.OneReference.{bounds, countable, nothing_recorded, first_done}
-use borrow.Author.Rules.{rules}
 use Rattle.refer.proofs.first_time.Goals as goal
 
 pub overflow_cast-references : goal.overflow_cast-references

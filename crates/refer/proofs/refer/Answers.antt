@@ -2,15 +2,14 @@
 -- passed, a hash that is not below the threshold is counted and no more, and else the rest is `sampled`'s.
 use native.Mathlib.Omega.{arith}
 use mathlib.Core.Bool.{false}
-use mathlib.Core.Path.{◌≡◌, refl, sym, ◌∙◌}
-use borrow.Author.Tests.{eqb-false, lt-ltb, le-ltb}
+use mathlib.Core.Path.{◌≡◌, sym, ◌∙◌}
+use borrow.Author.Tests.{eqb-false, le-ltb}
 use Rattle.rules.specs.Settings.{most_references}
 use Rattle.rules.specs.Layout.{tables_of}
 use Rattle.rules.specs.Conditions.{torn_record, too_short, full}
 use Rattle.rules.proofs.Bounds.{whole}
 use Rattle.rules.proofs.Calls.{refer_torn, refer_short, refer_full}
 use Rattle.refer.proofs.OneReference.{skipped_done}
-use borrow.Author.Rules.{rules}
 use Rattle.refer.proofs.refer.Goals as goal
 
 pub returns-then-torn : goal.returns-then-torn

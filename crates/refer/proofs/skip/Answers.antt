@@ -1,12 +1,10 @@
 -- Each test that stops it shows a condition of the definition to hold; with none, the reference is counted and no more.
 use native.Mathlib.Omega.{arith}
 use mathlib.Core.Bool.{false}
-use mathlib.Core.Option.{some}
-use mathlib.Core.Path.{◌≡◌, sym, ap, ◌∙◌}
-use borrow.Author.Tests.{eqb-false, lt-ltb, le-ltb}
+use mathlib.Core.Path.{◌≡◌, sym, ◌∙◌}
+use borrow.Author.Tests.{eqb-false}
 use Rattle.rules.specs.Settings.{most_references}
-use Rattle.rules.specs.Layout.{tables_of}
-use Rattle.rules.specs.Conditions.{torn_record, too_short, full}
+use Rattle.rules.specs.Conditions.{torn_record, full}
 use Rattle.rules.proofs.Bounds.{whole}
 use Rattle.refer.proofs.skip.Goals as goal
 
