@@ -1,0 +1,27 @@
+-- Nothing refuses the curve, so its room decides. Where it has room, the first line stands at the front, and behind it `empty`, or the points
+-- and `end`.
+use native.Mathlib.Omega.{arith}
+use Rattle.text.proofs.Laws.{adds_then}
+use Rattle.text.proofs.Curves.{judged_as, few_buckets, curve_short, empty_curve, points_curve}
+use Rattle.text.proofs.put_given.Goals as goal
+
+pub overflow_mul-points : goal.overflow_mul-points
+overflow_mul-points c = omega (arith, few_buckets c.requires)
+
+pub overflow_add-points-2 : goal.overflow_add-points-2
+overflow_add-points-2 c = omega (arith, few_buckets c.requires)
+
+pub overflow_add-points-3 : goal.overflow_add-points-3
+overflow_add-points-3 c = omega (arith, few_buckets c.requires)
+
+pub returns-then-out-points : goal.returns-then-out-points
+returns-then-out-points c = curve_short _ c.requires c.if-out-points.true
+
+pub returns-then-empty : goal.returns-then-empty
+returns-then-empty c =
+    empty_curve _ c.if-out-points.false (judged_as c.requires c.if-empty.true) (adds_then c.put_first_line-first.ensures.adds c.put.ensures)
+
+pub returns : goal.returns
+returns c =
+    points_curve _ c.if-out-points.false (judged_as c.requires c.if-empty.false)
+    (adds_then c.put_first_line-first.ensures.adds (adds_then c.put_points-last.ensures.adds c.put-2.ensures))
