@@ -5,7 +5,7 @@
 #![tactic(auto)]
 
 ghost use Rattle.std.specs.Prelude.{◌≡◌};
-ghost use Rattle.rules.specs.Layout.{buckets_of};
+ghost use Rattle.rules.specs.Layout.{buckets_of, tables_of};
 ghost use Rattle.words.specs.Words.{settings_from, shape_from, returned};
 ghost use Rattle.driver.specs.Calls.{version, held, setup_body_from, few_for_setup};
 ghost use Rattle.rules.specs.Events.{Fits};

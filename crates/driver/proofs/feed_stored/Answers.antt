@@ -1,0 +1,12 @@
+-- The call is `feed` of the words' own record, which is stored if an event was taken or a reference made.
+use Rattle.rules.specs.Layout.{tables_of}
+use Rattle.driver.specs.Calls.{held}
+use Rattle.driver.proofs.Laws.{feed_stored}
+use Rattle.driver.proofs.feed_stored.Goals as goal
+
+pub returns : goal.returns
+returns c =
+    let a = c.args in
+    feed_stored _ (held a.words.now (tables_of a.locations.now a.counts.now a.thresholds.now))
+    (rw c.record_of-kept.ensures at c.feed-fed.ensures)
+    c.fed_words.ensures (rw c.record_of-kept.ensures at c.store_if.ensures)
