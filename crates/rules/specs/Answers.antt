@@ -20,7 +20,6 @@ use Rattle.rules.specs.declared.Reading.{Reading}
 use Rattle.rules.specs.declared.Reading.TheVariants as reading
 use Rattle.rules.specs.declared.Written.{Written}
 use Rattle.rules.specs.declared.Written.TheVariants as written
-use Rattle.rules.specs.Settings.{Tables}
 use Rattle.rules.specs.Reference.{Reply, skipped, first, again}
 
 -- what a call answers: a refusal, by its number, or what the call is for

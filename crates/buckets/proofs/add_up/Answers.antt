@@ -1,10 +1,6 @@
-use mathlib.Core.Path.{◌≡◌, sym, ◌∙◌}
-use Prim.Native.Nat.{◌≤◌, ◌-◌}
+use mathlib.Core.Path.{sym, ◌∙◌}
 use native.Mathlib.Omega.{arith}
-use borrow.Author.Rules.{rules}
 use lib.ListN.{get_or}
-use Rattle.rules.specs.Layout.{buckets_of}
-use Rattle.buckets.specs.Buckets.{SoFar}
 use Rattle.rules.proofs.Bounds.{Sound, sound, product_fits, sound_rescaled}
 use Rattle.buckets.proofs.Laws.{torn_here, torn_over, so_far_more}
 use Rattle.buckets.proofs.add_up.Goals as goal
@@ -43,8 +39,7 @@ overflow_add-sum c =
     )
 
 pub loop-i-preserved : goal.loop-i-preserved
-loop-i-preserved c =
-    (
+loop-i-preserved c = (
   omega arith,
   so_far_more _ _ _ _ _ _ c.loop-i.invariant.1 (sym c.torn.ensures ∙ c.if-torn.false) (omega arith),
 )

@@ -1,13 +1,7 @@
 -- The sums of a range. The loop's invariant: the buckets below i are not torn, and add up to raw and sum.
-use mathlib.Core.Path.{◌≡◌, sym, ◌∙◌}
 use Prim.Native.Nat.{◌≤◌, ◌-◌}
-use native.Mathlib.Omega.{arith}
-use borrow.Author.Rules.{rules}
-use lib.ListN.{get_or}
 use Rattle.rules.specs.Layout.{buckets_of}
 use Rattle.buckets.specs.Buckets.{SoFar}
-use Rattle.rules.proofs.Bounds.{Sound, sound, product_fits, sound_rescaled}
-use Rattle.buckets.proofs.Laws.{torn_here, torn_over, so_far_more}
 use Rattle.buckets.proofs.add_up.Given as goal
 
 abbrev pub invariant-loop-i : goal.invariant-loop-i

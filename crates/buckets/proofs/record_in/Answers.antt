@@ -6,7 +6,6 @@ use borrow.Author.Tests.{le-leb, lt-leb}
 use lib.ListN.{get_or}
 use Rattle.buckets.specs.Buckets.{unrecordable, recorded_of}
 use Rattle.rules.proofs.Bounds.{Sound, sound, product_fits, sound_rescaled}
-use borrow.Author.Rules.{rules}
 use Rattle.buckets.proofs.record_in.Goals as goal
 
 pub returns-then-counts-at : goal.returns-then-counts-at

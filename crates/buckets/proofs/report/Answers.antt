@@ -1,6 +1,5 @@
 -- The report: the sums to the point, and on from there. What is torn in either part is torn in the whole.
 use native.Mathlib.Omega.{arith}
-use borrow.Author.Rules.{rules}
 use Rattle.rules.specs.Layout.{buckets_of}
 use Rattle.rules.proofs.Bounds.{both_long}
 use Rattle.buckets.proofs.Laws.{torn_more, so_far_none, report_short, report_torn, report_whole}

@@ -1,6 +1,5 @@
 use mathlib.Core.Path.{refl}
 use Rattle.rules.specs.Conditions.{torn_bucket}
-use borrow.Author.Rules.{rules}
 use Rattle.buckets.proofs.torn.Goals as goal
 
 pub returns : goal.returns

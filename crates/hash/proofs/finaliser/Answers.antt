@@ -1,5 +1,4 @@
 -- Each call is one step of the definition, and its contract says so.
-use Rattle.std.proofs.Common.{rules}
 use Rattle.rules.specs.Settings.{finaliser}
 use Rattle.hash.proofs.finaliser.Goals as goal
 

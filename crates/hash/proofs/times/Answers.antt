@@ -1,6 +1,6 @@
 -- The product modulo 2^64, by halves: each product of halves fits, and what is added up is the whole product by `halves`.
-use Rattle.std.proofs.Common.{ℕ, ◌+◌, ◌*◌, ◌%◌, ◌^◌, ap, ◌∙◌, arith, rules}
-use Rattle.hash.proofs.Product.{below, halves}
+use Rattle.std.proofs.Common.{ℕ, ◌+◌, ◌*◌, ◌%◌, ◌^◌, ap, ◌∙◌}
+use Rattle.hash.proofs.Product.{halves}
 use Rattle.hash.proofs.times.Goals as goal
 
 pub returns : goal.returns

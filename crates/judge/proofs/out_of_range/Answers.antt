@@ -1,5 +1,4 @@
 use Rattle.rules.specs.Settings.{out_of_range}
-use borrow.Author.Rules.{rules}
 use Rattle.judge.proofs.out_of_range.Goals as goal
 
 pub returns : goal.returns

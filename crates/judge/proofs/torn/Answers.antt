@@ -1,5 +1,4 @@
 use Rattle.rules.specs.Conditions.{torn_record}
-use borrow.Author.Rules.{rules}
 use Rattle.judge.proofs.torn.Goals as goal
 
 pub returns : goal.returns

@@ -2,7 +2,6 @@
 use mathlib.Core.Path.{sym, ◌∙◌}
 use borrow.Author.Tests.{leb-true}
 use Rattle.little_endian.proofs.Laws.{got_there, got_none}
-use borrow.Author.Rules.{rules}
 use Rattle.little_endian.proofs.get_four.Goals as goal
 
 pub returns-then-there : goal.returns-then-there

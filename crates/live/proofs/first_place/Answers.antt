@@ -1,9 +1,5 @@
-use mathlib.Core.Path.{◌≡◌, refl, sym, ◌∙◌}
-use Prim.Native.Nat.{◌-◌}
+use mathlib.Core.Path.{sym, ◌∙◌}
 use native.Mathlib.Omega.{arith}
-use borrow.Author.Rules.{rules}
-use lib.ListN.{take, drop}
-use Rattle.rules.specs.Reference.{first_from}
 use Rattle.live.proofs.Laws.{search_hit, search_miss, search_end}
 use Rattle.live.proofs.first_place.Goals as goal
 

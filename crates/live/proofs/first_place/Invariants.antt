@@ -1,11 +1,8 @@
 -- The search. The loop's invariant: the first place in the list is the first place from here on.
-use mathlib.Core.Path.{◌≡◌, refl, sym, ◌∙◌}
+use mathlib.Core.Path.{◌≡◌}
 use Prim.Native.Nat.{◌-◌}
-use native.Mathlib.Omega.{arith}
-use borrow.Author.Rules.{rules}
 use lib.ListN.{take, drop}
 use Rattle.rules.specs.Reference.{first_from}
-use Rattle.live.proofs.Laws.{search_hit, search_miss, search_end}
 use Rattle.live.proofs.first_place.Given as goal
 
 abbrev pub invariant-loop-place : goal.invariant-loop-place

@@ -1,10 +1,6 @@
-use Prim.Native.Nat.{◌≤◌, ◌-◌}
 use native.Mathlib.Omega.{arith}
-use borrow.Author.Rules.{rules}
 use borrow.Author.Tests.{lt-ltb, le-ltb}
-use Rattle.rules.specs.Settings.{hash_of}
-use Rattle.rules.specs.Reference.{under}
-use Rattle.live.proofs.Laws.{Keeping, keep_none, keep_in, keep_out, keep_end}
+use Rattle.live.proofs.Laws.{keep_in, keep_out}
 use Rattle.live.proofs.keep_below.Goals as goal
 
 pub loop-i-preserved-then-hash_of-threshold : goal.loop-i-preserved-then-hash_of-threshold

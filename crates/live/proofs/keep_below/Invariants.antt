@@ -1,11 +1,8 @@
 -- The entries that stay. The loop's invariant: those of the first i stand over the front.
 use Prim.Native.Nat.{◌≤◌, ◌-◌}
-use native.Mathlib.Omega.{arith}
-use borrow.Author.Rules.{rules}
-use borrow.Author.Tests.{lt-ltb, le-ltb}
 use Rattle.rules.specs.Settings.{hash_of}
 use Rattle.rules.specs.Reference.{under}
-use Rattle.live.proofs.Laws.{Keeping, keep_none, keep_in, keep_out, keep_end}
+use Rattle.live.proofs.Laws.{Keeping}
 use Rattle.live.proofs.keep_below.Given as goal
 
 abbrev pub invariant-loop-i : goal.invariant-loop-i

@@ -1,11 +1,7 @@
-use mathlib.Core.Path.{◌≡◌, refl, ap, ◌∙◌}
-use Prim.Native.Nat.{◌≤◌, ◌-◌}
+use mathlib.Core.Path.{refl}
 use native.Mathlib.Omega.{arith}
-use borrow.Author.Rules.{rules}
-use lib.ListN.{take}
 use Rattle.rules.specs.Settings.{hash_of}
 use Rattle.rules.specs.Reference.{largest}
-use Rattle.rules.proofs.Tables.{takes}
 use Rattle.live.proofs.Laws.{largest_more}
 use Rattle.live.proofs.largest_hash.Goals as goal
 

@@ -1,13 +1,9 @@
 -- The largest hash. The loop's invariant: it is the largest of the first i.
-use mathlib.Core.Path.{◌≡◌, refl, ap, ◌∙◌}
+use mathlib.Core.Path.{◌≡◌}
 use Prim.Native.Nat.{◌≤◌, ◌-◌}
-use native.Mathlib.Omega.{arith}
-use borrow.Author.Rules.{rules}
 use lib.ListN.{take}
 use Rattle.rules.specs.Settings.{hash_of}
 use Rattle.rules.specs.Reference.{largest}
-use Rattle.rules.proofs.Tables.{takes}
-use Rattle.live.proofs.Laws.{largest_more}
 use Rattle.live.proofs.largest_hash.Given as goal
 
 abbrev pub invariant-loop-i : goal.invariant-loop-i

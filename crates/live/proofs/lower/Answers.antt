@@ -1,11 +1,9 @@
 -- A lowering, made of the other functions. Where the list is cut, their contracts say how far the threshold has fallen (`known`); the new
 -- location then stays, in front, or goes.
 use mathlib.Core.Path.{ap, ◌∙◌}
-use native.Mathlib.Omega.{arith}
-use borrow.Author.Rules.{rules}
 use Rattle.rules.specs.Settings.{hash_of}
 use Rattle.live.specs.Live.{lowering}
-use Rattle.live.proofs.Laws.{Fallen, falls, room, stays, goes}
+use Rattle.live.proofs.Laws.{Fallen, falls, stays, goes}
 use Rattle.live.proofs.lower.Goals as goal
 
 pub returns-then-own-fallen : goal.returns-then-own-fallen

@@ -1,7 +1,6 @@
 use mathlib.Core.Path.{◌≡◌}
 use native.Mathlib.Omega.{arith}
-use borrow.Author.Rules.{rules}
-use Rattle.live.proofs.Laws.{Shifting, shift_none, shift_more, shift_end, moved_none}
+use Rattle.live.proofs.Laws.{shift_more, shift_end, moved_none}
 use Rattle.live.proofs.to_front.Goals as goal
 
 pub returns-then-locations-place : goal.returns-then-locations-place

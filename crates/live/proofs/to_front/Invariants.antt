@@ -1,8 +1,5 @@
 -- The move to the front. The loop's invariant: what stood from i to the place has moved one back.
-use mathlib.Core.Path.{◌≡◌}
-use native.Mathlib.Omega.{arith}
-use borrow.Author.Rules.{rules}
-use Rattle.live.proofs.Laws.{Shifting, shift_none, shift_more, shift_end, moved_none}
+use Rattle.live.proofs.Laws.{Shifting}
 use Rattle.live.proofs.to_front.Given as goal
 
 abbrev pub invariant-loop-i : goal.invariant-loop-i
