@@ -3,9 +3,8 @@
 use mathlib.Core.Path.{sym, ◌∙◌}
 use native.Mathlib.Omega.{arith}
 use borrow.Author.Tests.{le-leb, lt-leb}
-use lib.ListN.{get_or}
 use Rattle.buckets.specs.Buckets.{unrecordable, recorded_of}
-use Rattle.rules.proofs.Bounds.{Sound, sound, product_fits, sound_rescaled}
+use Rattle.rules.proofs.Bounds.{sound, product_fits, sound_rescaled}
 use Rattle.buckets.proofs.record_in.Goals as goal
 
 pub returns-then-counts-at : goal.returns-then-counts-at
@@ -28,22 +27,22 @@ returns-then-torn c =
 
 pub overflow_mul-counts : goal.overflow_mul-counts
 overflow_mul-counts c =
-    let known : (let a = c.args in Sound a.references a.threshold (get_or a.counts.now a.at 0) (get_or a.thresholds.now a.at 0)) = sound _ _ _ _ (sym c.torn.ensures ∙ c.if-torn.false) in
+    let known = sound _ _ _ _ (sym c.torn.ensures ∙ c.if-torn.false) in
     record { fits = product_fits known c.ranges.references.fits }
 
 pub nonzero_div-counts : goal.nonzero_div-counts
 nonzero_div-counts c =
-    let known : (let a = c.args in Sound a.references a.threshold (get_or a.counts.now a.at 0) (get_or a.thresholds.now a.at 0)) = sound _ _ _ _ (sym c.torn.ensures ∙ c.if-torn.false) in
+    let known = sound _ _ _ _ (sym c.torn.ensures ∙ c.if-torn.false) in
     omega (arith, known.some)
 
 pub overflow_add-counts : goal.overflow_add-counts
 overflow_add-counts c =
-    let known : (let a = c.args in Sound a.references a.threshold (get_or a.counts.now a.at 0) (get_or a.thresholds.now a.at 0)) = sound _ _ _ _ (sym c.torn.ensures ∙ c.if-torn.false) in
+    let known = sound _ _ _ _ (sym c.torn.ensures ∙ c.if-torn.false) in
     omega (arith, sound_rescaled known, known.counted, c.ranges.references.fits)
 
 pub overflow_cast-thresholds : goal.overflow_cast-thresholds
 overflow_cast-thresholds c =
-    let known : (let a = c.args in Sound a.references a.threshold (get_or a.counts.now a.at 0) (get_or a.thresholds.now a.at 0)) = sound _ _ _ _ (sym c.torn.ensures ∙ c.if-torn.false) in
+    let known = sound _ _ _ _ (sym c.torn.ensures ∙ c.if-torn.false) in
     omega (arith, known.above, known.under)
 
 pub returns : goal.returns

@@ -1,20 +1,17 @@
 -- A lowering, made of the other functions. Where the list is cut, their contracts say how far the threshold has fallen (`known`); the new
 -- location then stays, in front, or goes.
 use mathlib.Core.Path.{ap, ◌∙◌}
-use Rattle.rules.specs.Settings.{hash_of}
 use Rattle.live.specs.Live.{lowering}
-use Rattle.live.proofs.Laws.{Fallen, falls, stays, goes}
+use Rattle.live.proofs.Laws.{falls, stays, goes}
 use Rattle.live.proofs.lower.Goals as goal
 
 pub returns-then-own-fallen : goal.returns-then-own-fallen
 returns-then-own-fallen c =
-    let known : (let a = c.args in Fallen (hash_of a.hashing) a.threshold a.n a.location a.locations.now c.hash_of-own.result c.smaller-fallen.result) = falls _ _ _ _ _ c.hash_of-own.ensures c.largest_hash-others.ensures c.larger.ensures
-    c.smaller-fallen.ensures in
+    let known = falls _ _ _ _ _ c.hash_of-own.ensures c.largest_hash-others.ensures c.larger.ensures c.smaller-fallen.ensures in
     ap (lowering _) c.to_front.ensures
     ∙ stays _ _ _ _ _ _ _ _ _ known c.keep_below-number.ensures c.if-own-fallen.true
 
 pub returns : goal.returns
 returns c =
-    let known : (let a = c.args in Fallen (hash_of a.hashing) a.threshold a.n a.location a.locations.now c.hash_of-own.result c.smaller-fallen.result) = falls _ _ _ _ _ c.hash_of-own.ensures c.largest_hash-others.ensures c.larger.ensures
-    c.smaller-fallen.ensures in
+    let known = falls _ _ _ _ _ c.hash_of-own.ensures c.largest_hash-others.ensures c.larger.ensures c.smaller-fallen.ensures in
     goes _ _ _ _ _ _ _ _ _ known c.keep_below-number.ensures c.if-own-fallen.false

@@ -2,14 +2,14 @@
 -- else the location enters the list.
 use native.Mathlib.Omega.{arith}
 use mathlib.Core.Path.{refl}
-use Rattle.rules.proofs.Bounds.{Whole}
 use Rattle.refer.proofs.OneReference.{bounds, countable, nothing_recorded, first_done}
 use Rattle.refer.proofs.first_time.Goals as goal
 
 pub overflow_cast-references : goal.overflow_cast-references
 overflow_cast-references c =
-    let in_bounds : Whole c.args.kept = let a = c.args in bounds a.location a.kept a.locations.now a.counts.now a.thresholds.now c.requires.0 in
-    omega (arith, in_bounds.references_high)
+    let a = c.args in
+    let b = bounds a.location a.kept a.locations.now a.counts.now a.thresholds.now c.requires.0 in
+    omega (arith, b.references_high)
 
 pub counted_in-requires : goal.counted_in-requires
 counted_in-requires c =

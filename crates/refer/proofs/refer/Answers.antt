@@ -1,12 +1,9 @@
 -- Each test that is passed shows one of the definition's conditions not to hold; the first that stops the call is the refusal. With all
 -- passed, a hash that is not below the threshold is counted and no more, and else the rest is `sampled`'s.
 use native.Mathlib.Omega.{arith}
-use mathlib.Core.Bool.{false}
-use mathlib.Core.Path.{◌≡◌, sym, ◌∙◌}
+use mathlib.Core.Path.{sym, ◌∙◌}
 use borrow.Author.Tests.{eqb-false, le-ltb}
 use Rattle.rules.specs.Settings.{most_references}
-use Rattle.rules.specs.Layout.{tables_of}
-use Rattle.rules.specs.Conditions.{torn_record, too_short, full}
 use Rattle.rules.proofs.Bounds.{whole}
 use Rattle.rules.proofs.Calls.{refer_torn, refer_short, refer_full}
 use Rattle.refer.proofs.OneReference.{skipped_done}
@@ -17,29 +14,29 @@ returns-then-torn c = rw c.refused.ensures (sym (refer_torn _ _ (sym c.torn.ensu
 
 pub returns-then-too_short : goal.returns-then-too_short
 returns-then-too_short c =
-    let not_torn : torn_record c.args.kept ≡ false = sym c.torn.ensures ∙ c.if-torn.false in
+    let not_torn = sym c.torn.ensures ∙ c.if-torn.false in
     let short = sym c.too_short.ensures ∙ c.if-too_short.true in
     rw c.refused-then-too_short.ensures (sym (refer_short _ _ not_torn short))
 
 pub returns-then-is_full : goal.returns-then-is_full
 returns-then-is_full c =
-    let not_torn : torn_record c.args.kept ≡ false = sym c.torn.ensures ∙ c.if-torn.false in
-    let not_short : let a = c.args in too_short a.kept.settings (tables_of a.locations.now a.counts.now a.thresholds.now) ≡ false = sym c.too_short.ensures ∙ c.if-too_short.false in
+    let not_torn = sym c.torn.ensures ∙ c.if-torn.false in
+    let not_short = sym c.too_short.ensures ∙ c.if-too_short.false in
     rw c.refused-then-is_full.ensures (sym (refer_full _ _ not_torn not_short
     (sym c.is_full.ensures ∙ c.if-is_full.true)))
 
 pub counted_in-requires : goal.counted_in-requires
 counted_in-requires c =
-    let not_torn : torn_record c.args.kept ≡ false = sym c.torn.ensures ∙ c.if-torn.false in
-    let not_full : full c.args.kept.numbers ≡ false = sym c.is_full.ensures ∙ c.if-is_full.false in
+    let not_torn = sym c.torn.ensures ∙ c.if-torn.false in
+    let not_full = sym c.is_full.ensures ∙ c.if-is_full.false in
     let b = whole _ not_torn in
     let n = c.args.kept.numbers.references in
     (omega (arith, b.references_high, eqb-false n most_references not_full), b.sampled_high, omega arith)
 
 pub returns-then-kept-hash_of : goal.returns-then-kept-hash_of
 returns-then-kept-hash_of c =
-    let not_torn : torn_record c.args.kept ≡ false = sym c.torn.ensures ∙ c.if-torn.false in
-    let not_short : let a = c.args in too_short a.kept.settings (tables_of a.locations.now a.counts.now a.thresholds.now) ≡ false = sym c.too_short.ensures ∙ c.if-too_short.false in
-    let not_full : full c.args.kept.numbers ≡ false = sym c.is_full.ensures ∙ c.if-is_full.false in
+    let not_torn = sym c.torn.ensures ∙ c.if-torn.false in
+    let not_short = sym c.too_short.ensures ∙ c.if-too_short.false in
+    let not_full = sym c.is_full.ensures ∙ c.if-is_full.false in
     rw c.counted_in.ensures (skipped_done _ _ _ _ _ not_torn not_short not_full
     (le-ltb _ _ (rw c.hash_of.ensures at c.if-kept-hash_of.true)))
