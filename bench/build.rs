@@ -1,4 +1,4 @@
-// Where the proved code stands: the static library that `rt staticlib driver` writes.
+// Where the proved code stands: the static library, as tools/x86-64.sh copies it.
 use std::path::Path;
 
 fn main() {

@@ -1,4 +1,4 @@
-// Where the proved code stands: the static library that `rt staticlib driver` writes. libmurmurhash is Debian's.
+// Where the proved code stands: the static library, as tools/x86-64.sh copies it. libmurmurhash is Debian's.
 use std::path::Path;
 
 fn main() {
