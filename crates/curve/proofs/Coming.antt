@@ -1,7 +1,7 @@
 -- What a read came to, from the tests on what it returned: on the number of bytes, or on the kind of the error. Assumes nothing.
 use Prim.Native.Nat.{ℕ, ◌≤◌, ◌<◌}
-use mathlib.Core.Path.{◌≡◌, refl}
-use mathlib.Core.Bool.{true, false}
+use mathlib.Core.Path.{◌≡◌, refl, sym, ◌∙◌}
+use mathlib.Core.Bool.{true, false, cond}
 use native.Mathlib.Omega.{arith}
 use lib.Dec.{eqb}
 use borrow.Author.Tests.{ne_eqb}
@@ -33,11 +33,15 @@ module _ (room : ℕ) where
   pub came_end : came.End ≡ came_of (Ok 0) room
   came_end = refl
 
+  -- of an error, which was a negative number of the system's
+  came_negative : (error : Error) → came_of (Err error) room ≡ cond (interrupted error) came.Again (came.Failed error)
+  came_negative error = refl
+
   pub came_again : (error : Error) → error_kind error ≡ kind.Interrupted → came.Again ≡ came_of (Err error) room
-  came_again error is = rw (is_interrupted error is)
+  came_again error is = sym (came_negative error ∙ rw (is_interrupted error is))
 
   pub came_failed : (error : Error) → (error_kind error ≡ kind.Interrupted → ⊥) → came.Failed error ≡ came_of (Err error) room
-  came_failed error not = rw (not_interrupted error not)
+  came_failed error not = sym (came_negative error ∙ rw (not_interrupted error not))
 
 -- no more came than there was room for
 abbrev Within : Came → (room : ℕ) → Type 0
