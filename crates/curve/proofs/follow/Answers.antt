@@ -1,3 +1,4 @@
+-- `ready`: the loop's test leaves room to count another read.
 use native.Mathlib.Omega.{arith}
 use mathlib.Core.Path.{refl, ◌∙◌}
 use mathlib.Core.List.{[]}
