@@ -160,17 +160,17 @@ module _ {first : Tracker} {p : Pause} {t : Tables} {buffer : List ℕ} (ready :
   unfolding longer
   leads (came.Bytes n) (next.On q) a = let o = a first f.input f.paused in (o.0, record { input = longer n; paused = o.1 })
   leads (came.Bytes n) (next.Over (done.Text m)) a = record { input = longer n; stands = (a first f.input f.paused).1 }
-  leads (came.Bytes n) (next.Over done.Failed) a = absurd (a first f.input f.paused)
+  leads (came.Bytes n) (next.Over (done.Failed e)) a = absurd (a first f.input f.paused)
   leads (came.Bytes n) (next.Over done.Unending) a = absurd (a first f.input f.paused)
   leads came.End (next.On q) a = absurd (a first f.input f.paused)
   leads came.End (next.Over (done.Text m)) a = record { input = f.input; stands = a first f.input f.paused }
-  leads came.End (next.Over done.Failed) a = absurd (a first f.input f.paused)
+  leads came.End (next.Over (done.Failed e)) a = absurd (a first f.input f.paused)
   leads came.End (next.Over done.Unending) a = absurd (a first f.input f.paused)
   leads came.Again r a = rw (a.0, a.1, a.2) (
     record { short = ready.short; further = omega arith; most = omega arith; same = refl },
     record { input = f.input; paused = f.paused },
   )
-  leads came.Failed r a = rw (a.0, a.1, a.2) (record { pause = p; followed = f })
+  leads (came.Failed e) r a = rw (a.0, a.1, a.2) (record { pause = p; followed = f })
 
 -- the same pause, with one more read counted
 abbrev pub counted : Pause → Pause
@@ -181,7 +181,7 @@ pub read_leads : {first : Tracker} {p : Pause} {t after : Tables} {before exit :
     → Followed first p before t → OneRead (counted p) t before r exit after → r ≡ s → Leads first (counted p) s exit after
 read_leads {first} {p} {t} {after} {before} {exit} {r} ready f o e =
     let still : Followed first (counted p) o.buffer t = record { input = f.input; paused = rw o.front f.paused } in
-    rw e at (leads ready still exit after (came_of o.got o.error (length o.buffer - p.left)) r o.follows)
+    rw e at (leads ready still exit after (came_of o.got (length o.buffer - p.left)) r o.follows)
 
 -- ---- from the first settings on
 
@@ -196,7 +196,7 @@ module _ (t after : Tables) where
       fits = h.stands.fits;
     };
   }
-  tells_started kept left done.Failed buffer e h = record { first = record { kept = kept; tables = left }; is = sym e; holds = h }
+  tells_started kept left (done.Failed w) buffer e h = record { first = record { kept = kept; tables = left }; is = sym e; holds = h }
   tells_started kept left done.Unending buffer e h = record { first = record { kept = kept; tables = left }; is = sym e; holds = h }
 
 pub tells_refused : (t after : Tables) (n : ℕ) {buffer : List ℕ} {m : ℕ} → record { result = refused n; left = after } ≡ setup_of first_settings t
@@ -207,5 +207,5 @@ tells_refused t after n e a =
 -- what is told of the program's own tables
 pub printing : (d : Done) (buffer : List ℕ) (after : Tables) → TellsOver first_tables d buffer after → Printing d buffer
 printing (done.Text n) buffer after h = h
-printing done.Failed buffer after h = tt
+printing (done.Failed e) buffer after h = tt
 printing done.Unending buffer after h = tt

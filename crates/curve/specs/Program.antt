@@ -1,8 +1,13 @@
 -- Document 01, "The curve program": from the whole input to what is printed. Assumes nothing.
 --
--- Not proved is one line of the code: the read itself, with the number that the system returns and errno. All that follows it is proved, of
+-- Not proved is one line of the code: the call of `read`, with the bytes that it gives and what it returns. All that follows it is proved, of
 -- the bytes that then stand in the buffer (`AfterRead`). Since no contract can say what was read, the promise of the whole is over some input.
-use Rattle.std.specs.Prelude.{ℕ, ◌+◌, ◌-◌, ◌^◌, ◌≤◌, ◌<◌, min, ◌≡◌, Bool, false, cond, List, ◌++◌, eqb, ltb, ℤ, pos, negsuc, length, take, drop, replicate}
+use Rattle.std.specs.Prelude.{ℕ, ◌+◌, ◌-◌, ◌^◌, ◌≤◌, ◌<◌, min, ◌≡◌, Bool, true, false, cond, List, ◌++◌, eqb, ltb, length, take, drop, replicate, Ok, Err}
+use Rattle.std.specs.declared.result.Result as told
+use Rattle.std.specs.declared.io.Error.{Error}
+use Rattle.std.specs.declared.io.ErrorKind.{ErrorKind}
+use Rattle.std.specs.declared.io.ErrorKind.TheVariants as kind
+use Rattle.std.specs.IoError.{error_kind}
 use Rattle.rules.specs.declared.Record.{Record}
 use Rattle.rules.specs.declared.Settings.{Settings}
 use Rattle.rules.specs.Settings.{Histogram, Tables}
@@ -62,16 +67,19 @@ program_of input = text_over first_tables input
 
 -- ---- one read
 
--- errno 4, EINTR
-abbrev pub interrupted : (error : ℤ) → Bool
-interrupted (pos n) = eqb n 4
-interrupted (negsuc n) = false
+-- a read that a signal interrupted gives an error of this kind: errno 4, EINTR
+abbrev pub interruption : ErrorKind → Bool
+interruption kind.Interrupted = true
+interruption _ = false
 
--- what a read came to, by what the system returned and errno: so many bytes, but never more than there was room for; 0 is the end of the
--- input; a negative number is an interruption or else a failure
-abbrev pub came_of : (got error : ℤ) → (room : ℕ) → Came
-came_of (pos n) error room = cond (eqb n 0) came.End (came.Bytes (min n room))
-came_of (negsuc n) error room = cond (interrupted error) came.Again came.Failed
+abbrev pub interrupted : Error → Bool
+interrupted error = interruption (error_kind error)
+
+-- what a read came to, by what it returned: so many bytes, but never more than there was room for; 0 is the end of the input; an error is an
+-- interruption or else a failure with that error
+abbrev pub came_of : (got : told.Result ℕ Error) → (room : ℕ) → Came
+came_of (Ok n) room = cond (eqb n 0) came.End (came.Bytes (min n room))
+came_of (Err e) room = cond (interrupted e) came.Again (came.Failed e)
 
 -- ---- between reads
 
@@ -115,14 +123,14 @@ pub record Later (p q : Pause) : Type 0 where
 abbrev pub Feeds : (first : Tracker) (input : List ℕ) → Pause → Next → (buffer : List ℕ) → Tables → Type 0
 Feeds first input p (next.On q) buffer t = Later p q × Paused first input q t buffer
 Feeds first input p (next.Over (done.Text n)) buffer t = Refuses first input × Stands (text_from first input) buffer n
-Feeds first input p (next.Over done.Failed) buffer t = ⊥
+Feeds first input p (next.Over (done.Failed e)) buffer t = ⊥
 Feeds first input p (next.Over done.Unending) buffer t = ⊥
 
 -- the input is at its end: the result is its text
 abbrev pub Finishes : (first : Tracker) (input : List ℕ) → Next → (buffer : List ℕ) → Type 0
 Finishes first input (next.On q) buffer = ⊥
 Finishes first input (next.Over (done.Text n)) buffer = Stands (text_from first input) buffer n
-Finishes first input (next.Over done.Failed) buffer = ⊥
+Finishes first input (next.Over (done.Failed e)) buffer = ⊥
 Finishes first input (next.Over done.Unending) buffer = ⊥
 
 -- after feeding these bytes
@@ -137,12 +145,13 @@ abbrev pub AfterBytes : Pause → Tables → (buffer : List ℕ) → (count : �
 AfterBytes p t buffer count r exit after =
     (first : Tracker) (input : List ℕ) → Paused first input p t buffer → Feeds first (input ++ take count (drop p.left buffer)) p r exit after
 
--- after a read that left this buffer, by what it came to; after an interrupted or a failed one, nothing is changed
+-- after a read that left this buffer, by what it came to; after an interrupted or a failed one, nothing is changed, and the error of a failed
+-- one is the result's
 abbrev pub AfterRead : Pause → Tables → (buffer : List ℕ) → Came → Next → (exit : List ℕ) → Tables → Type 0
 AfterRead p t buffer (came.Bytes n) r exit after = AfterBytes p t buffer n r exit after
 AfterRead p t buffer came.End r exit after = (first : Tracker) (input : List ℕ) → Paused first input p t buffer → Finishes first input r exit
 AfterRead p t buffer came.Again r exit after = (r ≡ next.On p) × (exit ≡ buffer) × (after ≡ t)
-AfterRead p t buffer came.Failed r exit after = (r ≡ next.Over done.Failed) × (exit ≡ buffer) × (after ≡ t)
+AfterRead p t buffer (came.Failed e) r exit after = (r ≡ next.Over (done.Failed e)) × (exit ≡ buffer) × (after ≡ t)
 
 -- ---- some input: from here on it is not said which bytes were read
 
@@ -150,9 +159,8 @@ AfterRead p t buffer came.Failed r exit after = (r ≡ next.Over done.Failed) ×
 pub record OneRead (p : Pause) (t : Tables) (before : List ℕ) (r : Next) (exit : List ℕ) (after : Tables) : Type 0 where
   pub buffer : List ℕ
   pub front : take p.left buffer ≡ take p.left before
-  pub got : ℤ
-  pub error : ℤ
-  pub follows : AfterRead p t buffer (came_of got error (length buffer - p.left)) r exit after
+  pub got : told.Result ℕ Error
+  pub follows : AfterRead p t buffer (came_of got (length buffer - p.left)) r exit after
 
 -- the first n bytes of a buffer are the text for some input
 pub record Prints (text : List ℕ → List ℕ) (buffer : List ℕ) (n : ℕ) : Type 0 where
@@ -177,7 +185,7 @@ pub record TooLong (first : Tracker) (buffer : List ℕ) (t : Tables) : Type 0 w
 -- a result that is a text is the text for some input; otherwise some input was followed, and nothing is printed of it
 abbrev pub Tells : (first : Tracker) → Done → (buffer : List ℕ) → Tables → Type 0
 Tells first (done.Text n) buffer t = Prints (text_from first) buffer n
-Tells first done.Failed buffer t = Stopped first buffer t
+Tells first (done.Failed e) buffer t = Stopped first buffer t
 Tells first done.Unending buffer t = TooLong first buffer t
 
 -- the first setup is accepted, and this holds from the state that it leaves
@@ -189,11 +197,11 @@ pub record Begins (t : Tables) (P : Tracker → Type 0) : Type 0 where
 -- the same from the first setup on
 abbrev pub TellsOver : Tables → Done → (buffer : List ℕ) → Tables → Type 0
 TellsOver t (done.Text n) buffer after = Prints (text_over t) buffer n
-TellsOver t done.Failed buffer after = Begins t (λ first. Stopped first buffer after)
+TellsOver t (done.Failed e) buffer after = Begins t (λ first. Stopped first buffer after)
 TellsOver t done.Unending buffer after = Begins t (λ first. TooLong first buffer after)
 
 -- what is printed is what the program prints for some input
 abbrev pub Printing : Done → (buffer : List ℕ) → Type 0
 Printing (done.Text n) buffer = Prints program_of buffer n
-Printing done.Failed buffer = Unit {0}
+Printing (done.Failed e) buffer = Unit {0}
 Printing done.Unending buffer = Unit {0}

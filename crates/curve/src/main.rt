@@ -10,8 +10,9 @@ ghost use Rattle.curve.specs.Program.{first_settings, or_refused, last_text, cam
 ghost use Rattle.curve.specs.Program.{OneRead, Tells, TellsOver, Printing};
 
 use feed::{Ending, Fed};
-use libc::{EINTR, STDERR_FILENO, STDIN_FILENO, STDOUT_FILENO};
 use rules::{Hashing, Record, Settings, Started, Written};
+use std::io;
+use std::io::{ErrorKind, Read, Stdin, Write};
 
 // The bytes taken and the reads made are counted together, and at 2^64 - 65,537 the program gives up. After one read at most 65,536
 // bytes are taken, so that the sum never overflows.
@@ -28,8 +29,8 @@ enum Came {
     End,
     // The read was interrupted.
     Again,
-    // The read failed.
-    Failed,
+    // The read failed, with this error.
+    Failed(io::Error),
 }
 
 // The result of the program: a text at the front of the buffer, a failed read, or an input too long to count.
@@ -37,8 +38,8 @@ enum Came {
 enum Done {
     // The text to print, of this length.
     Text(usize),
-    // A read failed.
-    Failed,
+    // A read failed, with this error.
+    Failed(io::Error),
     // The input was too long to count.
     Unending,
 }
@@ -62,20 +63,20 @@ enum Next {
     Over(Done),
 }
 
-// What a read came to: `got` is what the system returned, `error` errno after it, and `part` was lent to it.
-fn came_of(got: isize, error: i32, part: &[u8]) -> Came
-    ensures { result ≡ came_of got error (length part.now) }
+// What a read came to: `got` is what it returned, and `part` was lent to it.
+fn came_of(got: io::Result<usize>, part: &[u8]) -> Came
+    ensures { result ≡ came_of got (length part.now) }
 {
-    if got > 0 {
-        return Came::Bytes(io::count(got, part));
+    match got {
+        Ok(0) => Came::End,
+        Ok(count) => Came::Bytes(count.min(part.len())),
+        Err(error) => {
+            if error.kind() == ErrorKind::Interrupted {
+                return Came::Again;
+            }
+            Came::Failed(error)
+        }
     }
-    if got == 0 {
-        return Came::End;
-    }
-    if error == EINTR {
-        return Came::Again;
-    }
-    Came::Failed
 }
 
 // Moves the bytes from `from` to `end` to the front, and returns how many there are.
@@ -192,11 +193,10 @@ fn after_bytes(
     after_fed(p, fed, end, buffer)
 }
 
-// Does everything that follows a read: `got` is what the system returned and `error` errno after it.
+// Does everything that follows a read: `got` is what it returned.
 fn after_read(
     p: Pause,
-    got: isize,
-    error: i32,
+    got: io::Result<usize>,
     buffer: &mut [u8],
     locations: &mut [u64],
     counts: &mut [u64],
@@ -204,23 +204,24 @@ fn after_read(
 ) -> Next
     requires { Ready p × (length buffer.old ≡ 65536) × (length counts.old ≤ 1026) }
     ensures { AfterRead p (tables_of locations.old counts.old thresholds.old) buffer.old
-        (came_of got error (length buffer.old - p.left)) result buffer.new (tables_of locations.new counts.new thresholds.new) }
+        (came_of got (length buffer.old - p.left)) result buffer.new (tables_of locations.new counts.new thresholds.new) }
 {
     let kept = p.kept;
     let left = p.left;
-    match came_of(got, error, &buffer[left..]) {
+    match came_of(got, &buffer[left..]) {
         Came::Bytes(count) => after_bytes(p, count, buffer, locations, counts, thresholds),
         Came::End => Next::Over(Done::Text(put_end(
             buffer, kept, left, p.place, counts, thresholds,
         ))),
         Came::Again => Next::On(p),
-        Came::Failed => Next::Over(Done::Failed),
+        Came::Failed(error) => Next::Over(Done::Failed(error)),
     }
 }
 
-// Reads once, behind the bytes left over, and does what follows. What the system puts there, and what it says of it, is not proved: this is
-// the only place that depends on it.
+// Reads once, behind the bytes left over, and does what follows. Which bytes the call of `read` puts there, and what it returns, is not
+// proved: this is the only place that depends on it.
 fn one_read(
+    input: &mut Stdin,
     p: Pause,
     buffer: &mut [u8],
     locations: &mut [u64],
@@ -232,13 +233,14 @@ fn one_read(
         result buffer.new (tables_of locations.new counts.new thresholds.new) }
 {
     let left = p.left;
-    let got = libc::read(STDIN_FILENO, &mut buffer[left..]);
-    after_read(p, got, os::errno(), buffer, locations, counts, thresholds)
+    let got = input.read(&mut buffer[left..]);
+    after_read(p, got, buffer, locations, counts, thresholds)
 }
 
 // Reads and feeds the input until there is a result. The promise is over some input: that these are the bytes of standard input is
 // not said.
 fn follow(
+    input: &mut Stdin,
     kept: Record,
     buffer: &mut [u8],
     locations: &mut [u64],
@@ -256,7 +258,7 @@ fn follow(
     };
     while p.place + p.reads < MOST_COUNTED {
         p.reads += 1;
-        match one_read(p, buffer, locations, counts, thresholds) {
+        match one_read(input, p, buffer, locations, counts, thresholds) {
             Next::On(next) => {
                 p = next;
             }
@@ -281,38 +283,49 @@ fn first_settings() -> Settings
 }
 
 // Runs the program: the first setup, then the input.
-fn run(buffer: &mut [u8], locations: &mut [u64], counts: &mut [u64], thresholds: &mut [u32]) -> Done
+fn run(
+    input: &mut Stdin,
+    buffer: &mut [u8],
+    locations: &mut [u64],
+    counts: &mut [u64],
+    thresholds: &mut [u32],
+) -> Done
     requires { (length buffer.old ≡ 65536) × (length counts.old ≤ 1026) }
     ensures { TellsOver (tables_of locations.old counts.old thresholds.old) result buffer.new (tables_of locations.new counts.new thresholds.new) }
 {
     match setup::setup(first_settings(), locations, counts, thresholds) {
-        Started::Ready(kept) => follow(kept, buffer, locations, counts, thresholds),
+        Started::Ready(kept) => follow(input, kept, buffer, locations, counts, thresholds),
         Started::Refused(why) => { Done::Text(put_refusal(buffer, judge::number_of(why), 0)) }
     }
 }
 
 // Prints the text at the front of the buffer, or says on standard error why there is none.
-fn tell(done: Done, buffer: &[u8])
+fn tell(rt: HostRuntime, done: Done, buffer: &[u8]) -> io::Result<()>
     requires { Printing done buffer.now }
 {
     match done {
         Done::Text(count) => {
-            if !io::write_all(STDOUT_FILENO, &buffer[..count]) {
-                os::fail(b"curve: standard output");
+            if let Err(error) = rt.stdout().write_all(&buffer[..count]) {
+                eprintln!(rt; "curve: standard output: {error}")?;
             }
         }
-        Done::Failed => os::fail(b"curve: standard input"),
-        Done::Unending => {
-            io::write_all(STDERR_FILENO, b"curve: standard input: too long\n");
-        }
+        Done::Failed(error) => eprintln!(rt; "curve: standard input: {error}")?,
+        Done::Unending => eprintln!(rt; "curve: standard input: too long")?,
     }
+    Ok(())
 }
 
-fn main() {
+fn main(rt: HostRuntime) -> io::Result<()> {
     let mut locations = [0u64; 1024];
     let mut counts = [0u64; 1026];
     let mut thresholds = [0u32; 1026];
-    let mut buffer = io::large_buffer();
-    let done = run(&mut buffer, &mut locations, &mut counts, &mut thresholds);
-    tell(done, &buffer);
+    let mut buffer = [0u8; 65536];
+    let done = run(
+        &mut rt.stdin(),
+        &mut buffer,
+        &mut locations,
+        &mut counts,
+        &mut thresholds,
+    );
+    tell(rt, done, &buffer)
 }
