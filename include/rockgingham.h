@@ -1,7 +1,8 @@
 /*
  * Rockgingham: miss ratio curves of a storage array's cache, by sampling.
  *
- * The C interface of the static library that `rt lib` in crates/driver writes (out/libdriver.a there, for x86-64 Linux).
+ * The C interface of the static library that `rt lib --cpu x86-64` in crates/driver writes
+ * (out/libdriver.a there, for x86-64 Linux).
  *
  * Every function is proved to terminate and to stay inside the memory it is lent. It takes any numbers, and a record, tables and
  * bytes of any length with any contents; no value has to be checked beforehand. A function keeps no state between calls and

@@ -101,20 +101,21 @@ install_packages() { # PACKAGE...
 
 # Proves and builds what rt makes of a crate, and copies it to a file in target/, if that file is missing or older than a source.
 # Progress is shown on standard error. rt keeps its own work in crates/NAME/out.
-made() { # FILE CRATE WORD-FOR-RT
+made() { # FILE CRATE WORDS-FOR-RT...
     local file=$1 folder=crates/$2 log=$PWD/target/made.log begun
     if [ -e "$file" ] && [ -z "$(find crates/*/* crates.txt -name out -prune -o -newer "$file" -print -quit)" ]; then return 0; fi
     [ -n "$(command -v rt)" ] || fail "rt, the command of the Rattle kit, is not on the path"
     say "proving and building $file, which takes some minutes"
     mkdir -p "$(dirname "$file")"
     begun=$(date +%s.%N)
-    (cd "$folder" && rt "$3" </dev/null) 2>&1 | tee "$log" | { grep --line-buffered '^rt: ' >&2 || true; } ||
+    (cd "$folder" && rt "${@:3}" </dev/null) 2>&1 | tee "$log" | { grep --line-buffered '^rt: ' >&2 || true; } ||
         fail "not built; $log says why"
     cp "$folder/out/$(basename "$file")" "$file"
     touch -d "@$begun" "$file"
 }
-made_program() { made target/bin/curve curve run; }
-made_library() { made target/staticlib/libdriver.a driver lib; }
+# For every processor of x86-64: without --cpu, rt builds for those of the second level, with SSE4.2.
+made_program() { made target/bin/curve curve run --cpu x86-64; }
+made_library() { made target/staticlib/libdriver.a driver lib --cpu x86-64; }
 
 # Builds the Rust program in a folder. `built` is its path.
 build_rust() { # FOLDER NAME
