@@ -36,6 +36,7 @@ fn finaliser(x: u64) -> u64
 }
 
 // The hash of a location: for kind 0 the location modulo 2^24, for any other kind its finaliser modulo 2^24.
+#[tactic(auto, unfolding(rules::specs::Settings::hash_of))]
 pub fn hash_of(hashing: Hashing, location: u64) -> u64
     ensures { result ≡ hash_of hashing location }
 {

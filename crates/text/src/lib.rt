@@ -178,12 +178,15 @@ pub fn put_curve(out: &mut [u8], kept: Record, counts: &[u64], thresholds: &[u32
     }
 }
 
+// The most bytes that the line for a refused event takes.
+const LONGEST_REFUSED: usize = 53;
+
 // Writes the line for a refused event, with the refusal's number and the place of the event's first byte, and returns its length.
 // A buffer of fewer than 53 bytes is refused.
 pub fn put_refused_line(out: &mut [u8], number: u64, place: u64) -> Written
     ensures { outcome (written_result result) out.new ≡ refused_in number place out.old }
 {
-    if out.len() < 53 {
+    if out.len() < LONGEST_REFUSED {
         return Written::Refused(Refusal::Tables);
     }
     Written::Filled(put_last_two(out, 0, b"refused ", number, b" at ", place))

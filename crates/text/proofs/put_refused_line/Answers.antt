@@ -5,10 +5,10 @@ use Rattle.text.specs.Text.{refused_line, refused_in}
 use Rattle.text.proofs.Curves.{in_short, in_room}
 use Rattle.text.proofs.put_refused_line.Goals as goal
 
-pub returns-then-out-lt53 : goal.returns-then-out-lt53
+pub returns-then-out-lt-LONGEST_REFUSED : goal.returns-then-out-lt-LONGEST_REFUSED
 unfolding refused_in
-returns-then-out-lt53 c = sym (in_short [] _ (refused_line c.args.number c.args.place) _ tt c.if-out-lt53.true)
+returns-then-out-lt-LONGEST_REFUSED c = sym (in_short [] _ (refused_line c.args.number c.args.place) _ tt c.if-out-lt-LONGEST_REFUSED.true)
 
 pub returns : goal.returns
 unfolding refused_in refused_line
-returns c = in_room [] _ _ _ tt c.if-out-lt53.false c.put_last_two.ensures.adds
+returns c = in_room [] _ _ _ tt c.if-out-lt-LONGEST_REFUSED.false c.put_last_two.ensures.adds
