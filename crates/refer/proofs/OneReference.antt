@@ -33,6 +33,13 @@ use Rattle.live.specs.Live.{Lowering, moved_to_front, lowering, lowering_of}
 use Rattle.live.proofs.Laws.{found_below, moved_over, moved_new}
 use Rattle.refer.specs.Refer.{counted_in, entered_of, Samples, skip_of}
 
+-- an accepted reference can be counted, as sampled too
+pub room_for : (kept : Record) (sampled : ℕ) → torn_record kept ≡ false → full kept.numbers ≡ false → sampled ≤ 1
+    → (kept.numbers.references < most_references) × (kept.numbers.sampled ≤ kept.numbers.references) × (sampled ≤ 1)
+room_for kept sampled not_torn not_full one =
+    let b = whole kept not_torn in
+    (omega (arith, b.references_high, eqb-false kept.numbers.references most_references not_full), b.sampled_high, one)
+
 module _ (x : ℕ) (kept : Record) (ls cs ts : List ℕ) (w : Samples x (tracker kept ls cs ts)) where
   abbrev s : Tracker
   s = tracker kept ls cs ts
@@ -43,13 +50,8 @@ module _ (x : ℕ) (kept : Record) (ls cs ts : List ℕ) (w : Samples x (tracker
   long : AllLong kept.settings s.tables
   long = all_long kept.settings s.tables w.tables_long
 
-  -- it can be counted, as sampled too
   pub countable : (kept.numbers.references < most_references) × (kept.numbers.sampled ≤ kept.numbers.references) × (1 ≤ 1)
-  countable = (
-    omega (arith, bounds.references_high, eqb-false kept.numbers.references most_references w.room),
-    bounds.sampled_high,
-    omega arith,
-  )
+  countable = room_for kept 1 w.record_whole w.room (omega arith)
 
   pub threshold_some : 0 < kept.threshold
   threshold_some = omega (arith, ltb-true (hash_for kept.settings x) kept.threshold w.below)

@@ -1,26 +1,30 @@
--- `ready`: the loop's test leaves room to count another read.
+-- Each turn is one read, by `read_leads`; where the loop stops, too many were counted.
 use native.Mathlib.Omega.{arith}
 use mathlib.Core.Path.{refl, ◌∙◌}
 use mathlib.Core.List.{[]}
+use Prim.Native.Nat.{◌+◌, ◌-◌, ◌<◌, ◌^◌}
+use Rattle.curve.specs.declared.Pause.{Pause}
 use Rattle.curve.specs.Program.{Ready}
 use Rattle.curve.proofs.Input.{follows_none, counted, read_leads}
 use Rattle.curve.proofs.follow.Goals as goal
+
+-- the loop's test leaves room to count another read
+ready : (p : Pause) → p.left < 18 → p.place + p.reads < 2 ^ 64 - 65537 → Ready (counted p)
+ready p short room = record { short = short; counted = omega arith }
 
 pub loop-p-init : goal.loop-p-init
 loop-p-init c = (c.requires.0, refl, refl, refl, omega arith, omega arith, record { input = []; paused = follows_none _ })
 
 pub loop-p-smaller : goal.loop-p-smaller
 loop-p-smaller c =
-    let ready : Ready (counted c.loop-p.p) = record { short = c.loop-p.invariant.4; counted = omega (arith, c.loop-p-test.true) } in
-    let led = read_leads ready c.loop-p.invariant.6 c.in-On.ensures refl in
+    let led = read_leads (ready _ c.loop-p.invariant.4 c.loop-p-test.true) c.loop-p.invariant.6 c.in-On.ensures refl in
     omega (arith, led.0.further, led.0.same)
 
 pub loop-p-preserved : goal.loop-p-preserved
 loop-p-preserved c =
-    let ready : Ready (counted c.loop-p.p) = record { short = c.loop-p.invariant.4; counted = omega (arith, c.loop-p-test.true) } in
     let head = c.loop-p in
     let same = c.one_read.auto in
-    let led = read_leads ready head.invariant.6 c.in-On.ensures refl in (
+    let led = read_leads (ready _ head.invariant.4 c.loop-p-test.true) head.invariant.6 c.in-On.ensures refl in (
       same.buffer ∙ head.invariant.0,
       same.locations ∙ head.invariant.1,
       same.counts ∙ head.invariant.2,
@@ -32,8 +36,7 @@ loop-p-preserved c =
 
 pub returns-in-Over : goal.returns-in-Over
 returns-in-Over c =
-    let ready : Ready (counted c.loop-p.p) = record { short = c.loop-p.invariant.4; counted = omega (arith, c.loop-p-test.true) } in
-    read_leads ready c.loop-p.invariant.6 c.in-Over.ensures refl
+    read_leads (ready _ c.loop-p.invariant.4 c.loop-p-test.true) c.loop-p.invariant.6 c.in-Over.ensures refl
 
 pub returns : goal.returns
 returns c =

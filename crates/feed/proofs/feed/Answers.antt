@@ -1,15 +1,16 @@
 use borrow.Author.Rules.{rules}
 use native.Mathlib.Omega.{arith}
 use mathlib.Core.List.{List}
-use Prim.Native.Nat.{ℕ, ◌-◌}
+use Prim.Native.Nat.{ℕ, ◌-◌, ◌<◌, ◌≤◌}
 use mathlib.Core.Path.{◌≡◌, sym, ap, ◌∙◌}
 use lib.ListN.{length, take, drop}
 use Rattle.rules.specs.declared.Event.{Event}
-use Rattle.rules.specs.Answers.{Result, Got}
+use Rattle.rules.specs.Answers.{Result, gives, Got}
+use Rattle.rules.specs.Layout.{Tracker}
 use Rattle.rules.specs.Events.{read_of}
 use Rattle.rules.proofs.Tables.{from_place_lem}
 use Rattle.apply.proofs.Applying.{skip_event_lem}
-use Rattle.feed.proofs.Loop.{at_end, at_unread, ahead, at_refused, goes_on}
+use Rattle.feed.proofs.Loop.{Going, at_end, at_unread, ahead, at_refused, goes_on}
 use Rattle.feed.proofs.feed.Goals as goal
 
 -- the event that was read, with the bytes that it took
@@ -20,15 +21,16 @@ got event taken = record { event = event; taken = taken }
 found : (bytes : List ℕ) (at : ℕ) {r : Result Got} → r ≡ read_of (take (length bytes - at) (drop at bytes)) → read_of (drop at bytes) ≡ r
 found bytes at e = sym (e ∙ ap read_of (from_place_lem bytes at))
 
+-- an event that was read has bytes, and they are there
+on : (bytes : List ℕ) (at : ℕ) {first s : Tracker} → Going bytes first at s → at < length bytes → (event : Event) (taken : ℕ)
+    → gives (got event taken) ≡ read_of (take (length bytes - at) (drop at bytes)) → (0 < taken) × (taken ≤ length bytes - at)
+on bytes at w some event taken e = ahead w some (got event taken) (found bytes at e)
+
 pub overflow_add-at : goal.overflow_add-at
-overflow_add-at c =
-    let on = ahead c.loop-at.invariant.3 c.loop-at-test.true (got c.in-Got.event c.in-Got.taken) (found c.args.bytes.now c.loop-at.at c.in-Got.ensures) in
-    omega (arith, on)
+overflow_add-at c = omega (arith, on c.args.bytes.now c.loop-at.at c.loop-at.invariant.3 c.loop-at-test.true _ _ c.in-Got.ensures)
 
 pub loop-at-smaller-in-Counted : goal.loop-at-smaller-in-Counted
-loop-at-smaller-in-Counted c =
-    let on = ahead c.loop-at.invariant.3 c.loop-at-test.true (got c.in-Got.event c.in-Got.taken) (found c.args.bytes.now c.loop-at.at c.in-Got.ensures) in
-    omega (arith, on)
+loop-at-smaller-in-Counted c = omega (arith, on c.args.bytes.now c.loop-at.at c.loop-at.invariant.3 c.loop-at-test.true _ _ c.in-Got.ensures)
 
 pub loop-at-preserved-in-Counted : goal.loop-at-preserved-in-Counted
 loop-at-preserved-in-Counted c = (
@@ -45,14 +47,10 @@ returns-in-Refused-answer c =
     (rw c.in-Refused-answer.is at c.apply-applied.ensures)
 
 pub overflow_add-at-in-Got : goal.overflow_add-at-in-Got
-overflow_add-at-in-Got c =
-    let on = ahead c.loop-at.invariant.3 c.loop-at-test.true (got c.in-Got.event c.in-Got.taken) (found c.args.bytes.now c.loop-at.at c.in-Got.ensures) in
-    omega (arith, on)
+overflow_add-at-in-Got c = omega (arith, on c.args.bytes.now c.loop-at.at c.loop-at.invariant.3 c.loop-at-test.true _ _ c.in-Got.ensures)
 
 pub loop-at-smaller : goal.loop-at-smaller
-loop-at-smaller c =
-    let on = ahead c.loop-at.invariant.3 c.loop-at-test.true (got c.in-Got.event c.in-Got.taken) (found c.args.bytes.now c.loop-at.at c.in-Got.ensures) in
-    omega (arith, on)
+loop-at-smaller c = omega (arith, on c.args.bytes.now c.loop-at.at c.loop-at.invariant.3 c.loop-at-test.true _ _ c.in-Got.ensures)
 
 pub loop-at-preserved : goal.loop-at-preserved
 loop-at-preserved c = (

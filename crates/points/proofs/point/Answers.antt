@@ -1,10 +1,8 @@
 -- Each test that is passed shows one of the definition's conditions not to hold; the first that stops the call is the refusal. With all four
 -- passed, the report's sums decide: torn in the report, or the point that `point_of` makes of them.
 use native.Mathlib.Omega.{arith}
-use mathlib.Core.Bool.{false}
-use mathlib.Core.Path.{◌≡◌, sym, ◌∙◌}
+use mathlib.Core.Path.{sym, ◌∙◌}
 use borrow.Author.Tests.{lt-ltb}
-use Rattle.rules.specs.Conditions.{torn_record}
 use Rattle.rules.proofs.Bounds.{whole}
 use Rattle.rules.proofs.Calls.{point_torn, point_short, point_stale, point_number}
 use Rattle.points.proofs.CurvePoints.{from_refused, from_sums_lem, sums_ordered}
@@ -32,7 +30,7 @@ overflow_cast-references c = omega (arith, (whole c.args.kept (sym c.torn.ensure
 
 pub point_of-requires : goal.point_of-requires
 point_of-requires c =
-    let not_torn : torn_record c.args.kept ≡ false = sym c.torn.ensures ∙ c.if-torn.false in
+    let not_torn = sym c.torn.ensures ∙ c.if-torn.false in
     let in_bounds = whole c.args.kept not_torn in (
       omega (arith, in_bounds.range.buckets_high),
       in_bounds.range.width_high,

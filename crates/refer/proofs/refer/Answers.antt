@@ -2,11 +2,9 @@
 -- passed, a hash that is not below the threshold is counted and no more, and else the rest is `sampled`'s.
 use native.Mathlib.Omega.{arith}
 use mathlib.Core.Path.{sym, ◌∙◌}
-use borrow.Author.Tests.{eqb-false, le-ltb}
-use Rattle.rules.specs.Settings.{most_references}
-use Rattle.rules.proofs.Bounds.{whole}
+use borrow.Author.Tests.{le-ltb}
 use Rattle.rules.proofs.Calls.{refer_torn, refer_short, refer_full}
-use Rattle.refer.proofs.OneReference.{skipped_done}
+use Rattle.refer.proofs.OneReference.{room_for, skipped_done}
 use Rattle.refer.proofs.refer.Goals as goal
 
 pub returns-then-torn : goal.returns-then-torn
@@ -26,12 +24,7 @@ returns-then-is_full c =
     (sym c.is_full.ensures ∙ c.if-is_full.true)))
 
 pub counted_in-requires : goal.counted_in-requires
-counted_in-requires c =
-    let not_torn = sym c.torn.ensures ∙ c.if-torn.false in
-    let not_full = sym c.is_full.ensures ∙ c.if-is_full.false in
-    let b = whole _ not_torn in
-    let n = c.args.kept.numbers.references in
-    (omega (arith, b.references_high, eqb-false n most_references not_full), b.sampled_high, omega arith)
+counted_in-requires c = room_for _ 0 (sym c.torn.ensures ∙ c.if-torn.false) (sym c.is_full.ensures ∙ c.if-is_full.false) (omega arith)
 
 pub returns-then-kept-hash_of : goal.returns-then-kept-hash_of
 returns-then-kept-hash_of c =
