@@ -1,8 +1,8 @@
 // Writes the curve as text, or the line for a refused event, at the front of a buffer. Document 01, "The curve program".
 #![tactic(auto)]
 
-ghost use Rattle.std.specs.Prelude.{◌≡◌, false, ◌++◌, ◌+◌, ◌*◌, ◌≤◌, length};
-ghost use Rattle.rules.specs.Answers.{gives, point_result, written_result};
+ghost use Rattle.std.specs.Prelude.{◌≡◌, false, ◌++◌, ◌+◌, ◌*◌, ◌≤◌, length, eqb};
+ghost use Rattle.rules.specs.Answers.{gives, number, point_result, written_result};
 ghost use Rattle.rules.specs.Order.{outcome};
 ghost use Rattle.rules.specs.Layout.{buckets_of};
 ghost use Rattle.rules.specs.Calls.{point_on, own_point};
@@ -164,6 +164,16 @@ fn put_given(
     Written::Filled(put(out, last, b"end\n"))
 }
 
+// Whether a point is refused since there is nothing to report.
+fn is_empty(why: Refusal) -> bool
+    ensures { result ≡ eqb (number why) 9 }
+{
+    match why {
+        Refusal::Empty => true,
+        _ => false,
+    }
+}
+
 // Writes the curve and returns its length. It is refused, and nothing is changed, if the record is torn, a table is too short, a
 // bucket is torn, or the buffer might be too short for a curve with so many buckets.
 pub fn put_curve(out: &mut [u8], kept: Record, counts: &[u64], thresholds: &[u32]) -> Written
@@ -171,10 +181,13 @@ pub fn put_curve(out: &mut [u8], kept: Record, counts: &[u64], thresholds: &[u32
 {
     match point_at(kept, 0, counts, thresholds) {
         Pointed::At(_) => put_given(out, false, kept, counts, thresholds),
-        Pointed::Refused(why) => match why {
-            Refusal::Empty => put_given(out, true, kept, counts, thresholds),
-            _ => Written::Refused(why),
-        },
+        Pointed::Refused(why) => {
+            if is_empty(why) {
+                put_given(out, true, kept, counts, thresholds)
+            } else {
+                Written::Refused(why)
+            }
+        }
     }
 }
 
