@@ -1,23 +1,59 @@
 -- The laws of the histogram in its tables. What is torn stays torn with more buckets, by induction on their number; the sums keep `SoFar`, to
 -- which each bucket that is not torn adds its own count; the report is made of the sums at two places. Assumes nothing.
-use Prim.Native.Nat.{ℕ, zero, suc, ◌+◌, ◌*◌, ◌≤◌, ◌<◌, min}
-use mathlib.Core.Path.{◌≡◌, refl, subst}
+use Prim.Native.Nat.{ℕ, zero, suc, ◌+◌, ◌-◌, ◌*◌, ◌≤◌, ◌<◌, min}
+use mathlib.Core.Path.{◌≡◌, refl, subst, ◌∙◌}
+use mathlib.Core.List.{List}
 use mathlib.Core.Logic.{⊎_elim}
 use mathlib.Core.Bool.{true, false, cond, ◌||◌}
 use native.Mathlib.Nat.{eq-or-lt_of_le, le_of_suc-le-suc}
 use native.Mathlib.Numerals.{add-one}
 use native.Mathlib.Omega.{arith}
 use lib.Dec.{ltb}
-use lib.ListN.{length, length-set}
+use lib.ListN.{length, take, drop, length-set}
+use Rattle.std.proofs.Common.{Option, Some, Bor, Iter}
+use Rattle.std.specs.declared.iter.Zip.{Zip}
+use Rattle.std.specs.Iterator.{Yields}
+use Rattle.std.specs.Iterator.Adapters.{zip_first, zip_second}
+use Rattle.std.specs.Slice.Iter.{iter_rest}
+use Rattle.std.proofs.iter.Yields.{fronts}
+use Rattle.std.proofs.lemmas.Iterator.{zips}
+use Rattle.std.proofs.lemmas.List.{get_or-take, get_or-drop, length-take}
+use Rattle.std.proofs.lemmas.Slice.Zip.{zip_turn}
 use borrow.Author.Tests.{ltb-true, le-ltb, lt-ltb, lt-leb}
 use Rattle.rules.specs.Settings.{Histogram, needed, one_reference}
 use Rattle.rules.specs.Reference.{rescaled, count_at, threshold_at, record_in}
 use Rattle.rules.specs.Curve.{sum_to, raw_to, hits_at, total_of}
 use Rattle.rules.specs.Answers.{refused, gives}
+use Rattle.rules.specs.Layout.{buckets_of}
 use Rattle.rules.specs.Conditions.{torn_at, any_torn, torn_to, torn_report}
 use Rattle.rules.proofs.Tests.{cases, or_left, or_right}
 use Rattle.rules.proofs.Bounds.{sound, sound_rescaled}
 use Rattle.buckets.specs.Buckets.{unrecordable, recorded_of, report_of, SoFar}
+
+-- ---- a pass over the buckets from one place up to another
+
+-- the turn's pair is the bucket behind those that were passed
+pub record Here (g : Histogram) (place to count own : ℕ) : Type 0 where
+  pub below : place < to
+  pub count_is : count ≡ count_at place g
+  pub own_is : own ≡ threshold_at place g
+
+module _ (counts thresholds : List ℕ) (from to : ℕ) where
+  abbrev passed : (l : List ℕ) → List ℕ
+  passed l = take (to - from) (drop from l)
+
+  pub turn : (pairs : List (Bor ℕ × Bor ℕ)) (s t u : Zip (Iter ℕ) (Iter ℕ)) (given : Option (Bor ℕ × Bor ℕ)) (pair : Bor ℕ × Bor ℕ)
+      → iter_rest (zip_first s) ≡ passed counts → iter_rest (zip_second s) ≡ passed thresholds
+      → Yields (zips fronts fronts) s pairs t → given ≡ Some pair → zips fronts fronts t given u
+      → Here (buckets_of counts thresholds) (from + length pairs) to pair.0.now pair.1.now
+  turn pairs s t u given pair first second yielded some goes =
+      let h = zip_turn (passed counts) (passed thresholds) pairs s t u given first second yielded pair some goes in
+      let low : length pairs < to - from = omega (arith, h.0, length-take (to - from) (drop from counts)) in
+      record {
+        below = omega arith;
+        count_is = h.2 0 ∙ get_or-take _ _ _ _ low ∙ get_or-drop from counts (length pairs) 0;
+        own_is = h.3 0 ∙ get_or-take _ _ _ _ low ∙ get_or-drop from thresholds (length pairs) 0;
+      }
 
 -- ---- torn buckets, and raw counts that are too many
 

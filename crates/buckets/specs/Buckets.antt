@@ -1,5 +1,7 @@
 -- Recording in the histogram, and reporting it. Assumes nothing.
 use Rattle.std.specs.Prelude.{ℕ, ◌*◌, ◌≤◌, min, ◌≡◌, Bool, true, false, cond, ◌||◌, List, [], ◌∷◌, ltb, leb, length}
+use Rattle.std.specs.Prelude.{Result as OrRefusal, Ok, Err}
+use Rattle.rules.specs.declared.Refusal.{Refusal}
 use Rattle.rules.specs.Settings.{Histogram, one_reference}
 use Rattle.rules.specs.Reference.{record_in}
 use Rattle.rules.specs.Curve.{sum_to, raw_to}
@@ -11,8 +13,7 @@ use Rattle.rules.specs.Conditions.{torn_at, any_torn, torn_to}
 use Rattle.buckets.specs.declared.Sums.{Sums}
 use Rattle.buckets.specs.declared.Reported.{Reported}
 use Rattle.buckets.specs.declared.Reported.TheVariants as reported
-use Rattle.buckets.specs.declared.Added.{Added}
-use Rattle.buckets.specs.declared.Added.TheVariants as added
+use Rattle.buckets.specs.declared.Adding.{Adding}
 
 -- whether a reference was recorded, and the histogram afterwards
 pub record Recorded : Type 0 where
@@ -54,6 +55,6 @@ pub record SoFar (references t n : ℕ) (g : Histogram) (raw sum : ℕ) : Type 0
   pub sum_high : sum ≤ raw
 
 -- the buckets below n add up to this, or they are torn
-abbrev pub added_to : (references t n : ℕ) → Histogram → Added → Type 0
-added_to references t n g (added.Whole a) = SoFar references t n g a.raw a.sum
-added_to references t n g added.Torn = torn_to references t n g ≡ true
+abbrev pub added_to : (references t n : ℕ) → Histogram → OrRefusal Adding Refusal → Type 0
+added_to references t n g (Ok a) = SoFar references t n g a.raw a.sum
+added_to references t n g (Err why) = (why ≡ refusal.Torn) × (torn_to references t n g ≡ true)

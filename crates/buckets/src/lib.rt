@@ -31,21 +31,6 @@ struct Adding {
     sum: u64,
 }
 
-// What some buckets add up to, or that one of them is torn or the sum of their raw counts is too large.
-#[derive(Clone, Copy)]
-enum Added {
-    // Their sums.
-    Whole(Adding),
-    // One is torn, or the sum of their raw counts is too large.
-    Torn,
-}
-
-fn lesser(a: usize, b: usize) -> usize
-    ensures { result ≡ min a b }
-{
-    if a < b { a } else { b }
-}
-
 // Whether a bucket with this count and this bucket threshold is torn.
 fn torn(count: u64, own: u32, threshold: u64, references: u32) -> bool
     ensures { result ≡ torn_bucket references threshold count own }
@@ -83,7 +68,7 @@ pub fn record_in(
     true
 }
 
-// Adds the buckets of a range to the sums of those before it.
+// Adds the buckets of a range to the sums of those before it. Torn: one is torn, or the sum of the raw counts is too large.
 fn add_up(
     counts: &[u64],
     thresholds: &[u32],
@@ -92,7 +77,7 @@ fn add_up(
     adding: Adding,
     threshold: u64,
     references: u32,
-) -> Added
+) -> Result<Adding, Refusal>
     requires { (from ≤ to) × (to ≤ length counts.now) × (to ≤ length thresholds.now)
         × SoFar references threshold from (buckets_of counts.now thresholds.now) adding.raw adding.sum }
     ensures { added_to references threshold to (buckets_of counts.now thresholds.now) result }
@@ -100,22 +85,18 @@ fn add_up(
     let most = ONE_REFERENCE * (references as u64);
     let mut raw = adding.raw;
     let mut sum = adding.sum;
-    let mut i = from;
-    while i < to {
-        let count = counts[i];
-        let own = thresholds[i];
+    for (&count, &own) in counts[from..to].iter().zip(&thresholds[from..to]) {
         if torn(count, own, threshold, references) {
-            return Added::Torn;
+            return Err(Refusal::Torn);
         }
         raw += count;
         if most < raw {
-            return Added::Torn;
+            return Err(Refusal::Torn);
         }
         let b = own as u64;
         sum += count * threshold / b;
-        i += 1;
     }
-    Added::Whole(Adding { raw, sum })
+    Ok(Adding { raw, sum })
 }
 
 // Reports the first `needed` buckets under the threshold: the hits at a point and the total, in one pass.
@@ -132,19 +113,19 @@ pub fn report(
     if (counts.len() < needed) | (thresholds.len() < needed) {
         return Reported::Refused(Refusal::Tables);
     }
-    let middle = lesser(point, needed);
+    let middle = point.min(needed);
     let none = Adding { raw: 0, sum: 0 };
-    let Added::Whole(hits) = add_up(counts, thresholds, 0, middle, none, threshold, references)
-    else {
-        return Reported::Refused(Refusal::Torn);
+    let hits = match add_up(counts, thresholds, 0, middle, none, threshold, references) {
+        Ok(hits) => hits,
+        Err(why) => return Reported::Refused(why),
     };
-    let Added::Whole(total) = add_up(
+    match add_up(
         counts, thresholds, middle, needed, hits, threshold, references,
-    ) else {
-        return Reported::Refused(Refusal::Torn);
-    };
-    Reported::Sums(Sums {
-        hits: hits.sum,
-        total: total.sum,
-    })
+    ) {
+        Ok(total) => Reported::Sums(Sums {
+            hits: hits.sum,
+            total: total.sum,
+        }),
+        Err(why) => Reported::Refused(why),
+    }
 }

@@ -14,12 +14,13 @@ add_up-requires c =
     let long = both_long a.needed (buckets_of a.counts.now a.thresholds.now) c.if-counts-needed.false in
     (omega arith, omega (arith, long.counts_long), omega (arith, long.thresholds_long), so_far_none _ _ _)
 
-pub returns-in_default : goal.returns-in_default
-returns-in_default c = report_torn _ _ _ _ _ c.if-counts-needed.false (torn_more _ _ _ _ _ (omega arith) c.in_default.ensures)
+pub returns-in-Err : goal.returns-in-Err
+returns-in-Err c =
+    rw c.in-Err.ensures.0 (report_torn _ _ _ _ _ c.if-counts-needed.false (torn_more _ _ _ _ _ (omega arith) c.in-Err.ensures.1))
 
-pub returns-in_default-add_up : goal.returns-in_default-add_up
-returns-in_default-add_up c = report_torn _ _ _ _ _ c.if-counts-needed.false c.in_default-add_up.ensures
+pub returns-in-Err-add_up : goal.returns-in-Err-add_up
+returns-in-Err-add_up c = rw c.in-Err-add_up.ensures.0 (report_torn _ _ _ _ _ c.if-counts-needed.false c.in-Err-add_up.ensures.1)
 
-pub returns : goal.returns
-returns c =
-    report_whole _ _ _ _ _ c.if-counts-needed.false c.lesser-middle.ensures c.in-Whole.ensures c.in-Whole-add_up.ensures
+pub returns-in-Ok-add_up : goal.returns-in-Ok-add_up
+returns-in-Ok-add_up c =
+    report_whole _ _ _ _ _ c.if-counts-needed.false c.min-middle.ensures c.in-Ok.ensures c.in-Ok-add_up.ensures
