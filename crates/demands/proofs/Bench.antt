@@ -9,7 +9,9 @@ use native.Mathlib.Omega.{arith}
 use borrow.Author.Tests.{le-ltb, eq-eqb}
 use Rattle.rules.specs.declared.Settings.{Settings}
 use Rattle.rules.specs.Settings.{Histogram, Tables, with_defaults, out_of_range, hash_of}
-use Rattle.rules.specs.Reference.{Reply, skipped, first_from, largest, within_limit, sampled_step, step, rescaled, count_at, threshold_at}
+use Rattle.rules.specs.Reference.{first_from, largest, within_limit, sampled_step, step, rescaled, count_at, threshold_at}
+use Rattle.rules.specs.declared.Reply.{Reply}
+use Rattle.rules.specs.declared.Reply.TheVariants.{Skipped}
 use Rattle.rules.specs.Curve.{sum_to, raw_to}
 use Rattle.rules.specs.Answers.{refused, gives}
 use Rattle.rules.specs.Events.{read_of}
@@ -40,7 +42,7 @@ zero_empty past s run z k h =
     ∙ rw (le-ltb _ _ h, eq-eqb _ 0 (ap (λ t. sum_to t (s.kept.settings.buckets + 2) s.tables.histogram) z ∙ sum_zero _ s.tables.histogram))
 
 pub zero_skips : (past : List ℕ) (s : Tracker) → Run past s → s.kept.threshold ≡ 0 → (x : ℕ) (r : Reply) → (refer_of x s).result ≡ gives r
-    → r ≡ skipped
+    → r ≡ Skipped
 zero_skips past s run z x r e =
     whole_answers past s (refer_of x s).left x r run (λ i. record { result = e i; left = (refer_of x s).left })
     ∙ rw (le-ltb (hash_for s.kept.settings x) s.kept.threshold (omega arith))
@@ -80,7 +82,7 @@ case_d_lem : Zero (with_defaults (kind0 1 16 0 0)) case_d
 unfolding setup_of refer_of refer_all torn_record out_of_range with_defaults hash_of first_from largest within_limit sampled_step step torn_bucket
 case_d_lem = record { past = 16777216 ∷ 0 ∷ []; run = refer (refer (setup (kind0 1 16 0 0) zeros refl) refl) refl; is_zero = refl; same = refl }
 
-skips : (later : List ℕ) (x : ℕ) (r : Reply) → (refer_of x (refer_all later case_d).left).result ≡ gives r → r ≡ skipped
+skips : (later : List ℕ) (x : ℕ) (r : Reply) → (refer_of x (refer_all later case_d).left).result ≡ gives r → r ≡ Skipped
 skips later x r e = let z = zero_later _ later case_d case_d_lem in zero_skips z.past _ z.run z.is_zero x r e
 
 empty : (later : List ℕ) (k : ℕ) → k ≤ 256 → point_at (refer_all later case_d).left k ≡ refused 9

@@ -9,7 +9,9 @@ use lib.ListN.{length}
 use Rattle.rules.specs.declared.Settings.{Settings}
 use Rattle.rules.specs.declared.Record.{Record}
 use Rattle.rules.specs.Settings.{out_of_range, Tables, needed}
-use Rattle.rules.specs.Reference.{under, first_place, Reply, skipped, first, again}
+use Rattle.rules.specs.Reference.{under, first_place}
+use Rattle.rules.specs.declared.Reply.{Reply}
+use Rattle.rules.specs.declared.Reply.TheVariants.{Skipped, First, Again}
 use Rattle.rules.specs.Answers.{gives}
 use Rattle.rules.specs.Order.{Outcome}
 use Rattle.rules.specs.Layout.{Tracker, live_of, sample_of, hash_for, profile_of, counted, stored, fresh_tables, fresh_record, fresh}
@@ -91,9 +93,9 @@ module _ (past : List ℕ) (s : Tracker) (v : Invariant past s) (x : ℕ) where
   accepted r = record { record_whole = v.record_whole; tables_long = v.tables_long; room = r; bucket_sound = bucket_clean }
 
   counted_one : (r : Reply) → (counted r s.kept.numbers).references ≡ s.kept.numbers.references + 1
-  counted_one skipped = refl
-  counted_one first = refl
-  counted_one (again d) = refl
+  counted_one Skipped = refl
+  counted_one First = refl
+  counted_one (Again d) = refl
 
   pub invariant_stored : Accepted x s → Invariant (x ∷ past) (stored (step_of x s) s)
   invariant_stored a = record {

@@ -13,13 +13,13 @@ use Rattle.rules.specs.declared.Settings.{Settings}
 use Rattle.rules.specs.declared.Record.{Record}
 use Rattle.rules.specs.declared.Shape.{Shape}
 use Rattle.rules.specs.declared.Refusal.TheVariants as refusal
-use Rattle.rules.specs.declared.Pointed.TheVariants as pointed
-use Rattle.rules.specs.declared.Plotted.TheVariants as plotted
+use Rattle.std.specs.Prelude.{Err}
 use Rattle.rules.specs.declared.Event.{Event}
 use Rattle.rules.specs.declared.Event.TheVariants.{Location, Span, Restart, Setup}
 use Rattle.rules.specs.Lists.{over}
 use Rattle.rules.specs.Settings.{Histogram, Tables, with_defaults, out_of_range}
-use Rattle.rules.specs.Reference.{Reply, under, first_place, bucket_for, step}
+use Rattle.rules.specs.Reference.{under, first_place, bucket_for, step}
+use Rattle.rules.specs.declared.Reply.{Reply}
 use Rattle.rules.specs.Answers.{Result, refused, gives, number}
 use Rattle.rules.specs.Order.{Outcome, Judged, ◌when◌, says, leaves}
 use Rattle.rules.specs.Events.{settings_of, references_of, overrun}
@@ -30,7 +30,7 @@ use Rattle.rules.specs.Calls.{point_of, plot_of, apply_of}
 use Rattle.rules.specs.History.{Reference}
 use Rattle.rules.proofs.Tests.{cases, clash, or_left, or_right}
 use Rattle.rules.proofs.Order.{not_both, either, says_given, says_refused, leaves_was, leaves_both, says_before, says_behind, says_some}
-use Rattle.rules.proofs.Answers.{pointed_injective, plotted_injective}
+use Rattle.rules.proofs.Answers.{result_injective}
 use Rattle.rules.proofs.Bounds.{buckets_none_short}
 use Rattle.rules.proofs.Calls.{refer_accept, refer_either, sample_stored, point_torn, point_short, point_stale, plot_is}
 use Rattle.rules.proofs.Calls.{plotted as plotted-as}
@@ -144,8 +144,8 @@ module _ (kept : Record) (believed : Shape) (n : ℕ) (g : Histogram) where
 -- a refusal by number is one by name
 pub stale_by_name : StaleByName
 stale_by_name kept believed n g d = let why = stale_or kept g in record {
-  point = λ answer p. pointed_injective answer (pointed.Refused why) (p ∙ stale_says kept believed n g d);
-  plotted = λ answer p. plotted_injective answer (plotted.Refused why) (p ∙ stale_plots kept believed n g d);
+  point = λ answer p. result_injective answer (Err why) (p ∙ stale_says kept believed n g d);
+  plotted = λ answer p. result_injective answer (Err why) (p ∙ stale_plots kept believed n g d);
 }
 
 -- nothing is torn and no table short in what a run left

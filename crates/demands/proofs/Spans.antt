@@ -9,7 +9,7 @@ use lib.Dec.{eqb}
 use lib.ListN.{length, get_or}
 use borrow.Author.Tests.{eqb-false, ltb-true}
 use Rattle.rules.specs.declared.Event.TheVariants.{Location, Span, Restart, Setup}
-use Rattle.rules.specs.Reference.{Reply}
+use Rattle.rules.specs.declared.Reply.{Reply}
 use Rattle.rules.specs.Answers.{refused, gives}
 use Rattle.rules.specs.Order.{Outcome, outcome}
 use Rattle.rules.specs.Events.{block_of, last_byte, blocks_in, references_of, overrun}

@@ -9,7 +9,8 @@ use lib.ListN.{length}
 use Rattle.rules.specs.declared.Settings.{Settings}
 use Rattle.rules.specs.Lists.{has}
 use Rattle.rules.specs.Settings.{most_references, Tables, with_defaults}
-use Rattle.rules.specs.Reference.{Reply, skipped, first, again}
+use Rattle.rules.specs.declared.Reply.{Reply}
+use Rattle.rules.specs.declared.Reply.TheVariants.{Skipped, First, Again}
 use Rattle.rules.specs.Answers.{gives, refused}
 use Rattle.rules.specs.Order.{leaves, says, Judged}
 use Rattle.rules.specs.Layout.{Tracker, sample_of, hash_for, profile_of, counted, fresh_tables, stored, fresh_record}
@@ -54,9 +55,9 @@ whole_answers past s after x r run e = reply_step s after x r e ∙ step_reply p
 -- sampled rises where the answer is not Skipped
 sampled_more : (r : Reply) (n : Rattle.rules.specs.declared.Numbers.Numbers) (rs : List Reply) → n.sampled ≡ sampled_in rs
     → (counted r n).sampled ≡ sampled_in (r ∷ rs)
-sampled_more skipped n rs e = e
-sampled_more first n rs e = omega arith
-sampled_more (again d) n rs e = omega arith
+sampled_more Skipped n rs e = e
+sampled_more First n rs e = omega arith
+sampled_more (Again d) n rs e = omega arith
 
 sampled_is : {past : List ℕ} {s : Tracker} (run : Run past s) → s.kept.numbers.sampled ≡ sampled_in (answers run)
 sampled_is run = by_run (λ past s rs. s.kept.numbers.sampled ≡ sampled_in rs)

@@ -4,7 +4,9 @@ use Rattle.rules.specs.declared.Settings.{Settings}
 use Rattle.rules.specs.declared.Point.{Point}
 use Rattle.rules.specs.declared.Event.TheVariants.{Restart}
 use Rattle.rules.specs.Settings.{Tables, with_defaults, hash_of, full_rate}
-use Rattle.rules.specs.Reference.{Reply, skipped, scaled_distance, count_at, threshold_at}
+use Rattle.rules.specs.Reference.{scaled_distance, count_at, threshold_at}
+use Rattle.rules.specs.declared.Reply.{Reply}
+use Rattle.rules.specs.declared.Reply.TheVariants.{Skipped}
 use Rattle.rules.specs.Answers.{Result, refused, gives}
 use Rattle.rules.specs.Order.{Outcome}
 use Rattle.rules.specs.Events.{read_of}
@@ -73,7 +75,7 @@ pub record BenchTable : Type 0 where
       × (case_c.kept.threshold ≡ 3) × (live_of case_c ≡ [])
   pub d : accepted (kind0 1 16 0 0) (0 ∷ 16777216 ∷ []) × (case_d.kept.threshold ≡ 0)
       -- every later accepted reference, any number of them, is Skipped, and the report is Empty
-      × ((later : List ℕ) (x : ℕ) (r : Reply) → (refer_of x (refer_all later case_d).left).result ≡ gives r → r ≡ skipped)
+      × ((later : List ℕ) (x : ℕ) (r : Reply) → (refer_of x (refer_all later case_d).left).result ≡ gives r → r ≡ Skipped)
       × ((later : List ℕ) (k : ℕ) → k ≤ 256 → point_at (refer_all later case_d).left k ≡ refused 9)
   pub e : scaled_distance 1677721 3 ≡ 30
   pub f : accepted (kind0 1 7 0 0) (5 ∷ 5 ∷ 4 ∷ 3 ∷ [])

@@ -5,14 +5,14 @@ use Rattle.rules.specs.declared.Record.{Record}
 use Rattle.rules.specs.declared.Shape.{Shape}
 use Rattle.rules.specs.declared.Refusal.{Refusal}
 use Rattle.rules.specs.declared.Refusal.TheVariants as refusal
-use Rattle.rules.specs.declared.Pointed.{Pointed}
-use Rattle.rules.specs.declared.Pointed.TheVariants as pointed
-use Rattle.rules.specs.declared.Plotted.{Plotted}
-use Rattle.rules.specs.declared.Plotted.TheVariants as plotted
+use Rattle.std.specs.Prelude.{Err}
+use Rattle.std.specs.declared.result.Result as told
+use Rattle.rules.specs.declared.Point.{Point}
+use Rattle.rules.specs.declared.PlotPoint.{PlotPoint}
 use Rattle.rules.specs.declared.Event.{Event}
 use Rattle.rules.specs.declared.Event.TheVariants.{Location, Span, Restart, Setup}
 use Rattle.rules.specs.Settings.{Histogram}
-use Rattle.rules.specs.Answers.{refused, gives, point_result, plot_result}
+use Rattle.rules.specs.Answers.{refused, gives, result_of}
 use Rattle.rules.specs.Order.{Judged, ◌when◌, says, by_order, NoneHolds, FirstAt, refusal_at}
 use Rattle.rules.specs.Events.{settings_of, references_of, overrun}
 use Rattle.rules.specs.Layout.{Tracker, live_of}
@@ -76,8 +76,8 @@ AnotherShape believed s = believed.buckets ≡ s.buckets → believed.width ≡ 
 
 -- every answer that the two promises allow is this refusal
 pub record RefusedAs (why : Refusal) (kept : Record) (believed : Shape) (n : ℕ) (g : Histogram) : Type 0 where
-  pub point : (answer : Pointed) → point_result answer ≡ point_of kept believed n g → answer ≡ pointed.Refused why
-  pub plotted : (answer : Plotted) → plot_result answer ≡ plot_of kept believed n g → answer ≡ plotted.Refused why
+  pub point : (answer : told.Result Point Refusal) → result_of answer ≡ point_of kept believed n g → answer ≡ Err why
+  pub plotted : (answer : told.Result PlotPoint Refusal) → result_of answer ≡ plot_of kept believed n g → answer ≡ Err why
 
 -- of any record and tables: only a torn record and a short table are refused before
 abbrev pub stale_or : Record → Histogram → Refusal

@@ -3,7 +3,8 @@ use Rattle.std.specs.Prelude.{ℕ, suc, ◌≡◌, List, [], ◌∷◌}
 use Rattle.rules.specs.declared.Settings.{Settings}
 use Rattle.rules.specs.declared.Record.{Record}
 use Rattle.rules.specs.Settings.{Tables}
-use Rattle.rules.specs.Reference.{Reply, skipped, first, again}
+use Rattle.rules.specs.declared.Reply.{Reply}
+use Rattle.rules.specs.declared.Reply.TheVariants.{Skipped, First, Again}
 use Rattle.rules.specs.Answers.{gives}
 use Rattle.rules.specs.Order.{outcome}
 use Rattle.rules.specs.Layout.{Tracker}
@@ -32,6 +33,6 @@ answers (refer {r = r} run e) = r ∷ answers run
 -- how many were answered Again or First
 abbrev pub sampled_in : List Reply → ℕ
 sampled_in [] = 0
-sampled_in (skipped ∷ rs) = sampled_in rs
-sampled_in (first ∷ rs) = suc (sampled_in rs)
-sampled_in (again d ∷ rs) = suc (sampled_in rs)
+sampled_in (Skipped ∷ rs) = sampled_in rs
+sampled_in (First ∷ rs) = suc (sampled_in rs)
+sampled_in (Again d ∷ rs) = suc (sampled_in rs)

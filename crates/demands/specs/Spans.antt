@@ -3,7 +3,7 @@ use Rattle.std.specs.Prelude.{ℕ, ◌+◌, ◌-◌, ◌^◌, ◌≤◌, ◌<◌
 use Rattle.rules.specs.declared.Event.{Event}
 use Rattle.rules.specs.declared.Event.TheVariants.{Span}
 use Rattle.rules.specs.Lists.{has}
-use Rattle.rules.specs.Reference.{Reply}
+use Rattle.rules.specs.declared.Reply.{Reply}
 use Rattle.rules.specs.Answers.{refused, gives}
 use Rattle.rules.specs.Order.{Outcome, outcome}
 use Rattle.rules.specs.Events.{block_of, last_byte, references_of, fresh_start, overruns}

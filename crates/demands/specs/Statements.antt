@@ -4,7 +4,9 @@ use Rattle.rules.specs.declared.Settings.{Settings}
 use Rattle.rules.specs.declared.Event.{Event}
 use Rattle.rules.specs.Lists.{keep, has, upto}
 use Rattle.rules.specs.Settings.{needed, most_references, full_rate, one_reference}
-use Rattle.rules.specs.Reference.{Reply, skipped, first, again, count_at, threshold_at}
+use Rattle.rules.specs.Reference.{count_at, threshold_at}
+use Rattle.rules.specs.declared.Reply.{Reply}
+use Rattle.rules.specs.declared.Reply.TheVariants.{Skipped, First, Again}
 use Rattle.rules.specs.Curve.{raw_to, total_of}
 use Rattle.rules.specs.Answers.{refused, gives}
 use Rattle.rules.specs.Order.{outcome}
@@ -46,7 +48,7 @@ NothingElse = (past : List Reference) (s : Tracker) → Run past s → Alone pas
 abbrev pub history_reply : Tracker → List Reference → Reference → Reply
 history_reply s past x =
     let here = location x in
-    cond (in_force s here) (cond (has here (locations past)) (again (distance (in_force s) here (locations past))) first) skipped
+    cond (in_force s here) (cond (has here (locations past)) (Again (distance (in_force s) here (locations past))) First) Skipped
 
 abbrev pub Answers : Type 0
 Answers = (past : List Reference) (s after : Tracker) (x : Reference) (r : Reply) → Run past s

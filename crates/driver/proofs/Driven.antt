@@ -16,8 +16,9 @@ use Rattle.rules.specs.declared.Event.{Event}
 use Rattle.rules.specs.declared.Event.TheVariants as event
 use Rattle.rules.specs.Lists.{over}
 use Rattle.rules.specs.Settings.{Histogram, Tables, with_defaults}
-use Rattle.rules.specs.Reference.{Reply}
-use Rattle.rules.specs.Answers.{Result, refused, gives, number, number_of, Got}
+use Rattle.rules.specs.declared.Reply.{Reply}
+use Rattle.rules.specs.Answers.{Result, refused, gives, number, number_of}
+use Rattle.rules.specs.declared.Got.{Got}
 use Rattle.rules.specs.Order.{Outcome, outcome, Judged, says, NoneHolds}
 use Rattle.rules.specs.Events.{event_bytes, event_length, references_of, fresh_start, overrun, overruns, read_of, read_order, write_of, write_order}
 use Rattle.rules.specs.Layout.{Tracker, fresh_record, fresh_tables, fresh}

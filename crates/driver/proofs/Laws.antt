@@ -12,8 +12,10 @@ use Rattle.rules.specs.declared.Settings.{Settings}
 use Rattle.rules.specs.declared.Record.{Record}
 use Rattle.rules.specs.declared.Event.TheVariants.{Span}
 use Rattle.rules.specs.Settings.{Tables, with_defaults, out_of_range}
-use Rattle.rules.specs.Reference.{Reply, skipped, first, again}
-use Rattle.rules.specs.Answers.{Result, refused, gives, number_of, Got}
+use Rattle.rules.specs.Reference.{skipped, first, again}
+use Rattle.rules.specs.declared.Reply.{Reply}
+use Rattle.rules.specs.Answers.{Result, refused, gives, number_of}
+use Rattle.rules.specs.declared.Got.{Got}
 use Rattle.rules.specs.Order.{Outcome, outcome}
 use Rattle.rules.specs.Events.{event_bytes, Fits, overrun, read_of, write_of}
 use Rattle.rules.specs.Layout.{Tracker}

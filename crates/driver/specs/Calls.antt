@@ -6,7 +6,8 @@ use Rattle.rules.specs.declared.SetupBody.{SetupBody}
 use Rattle.rules.specs.declared.Event.{Event}
 use Rattle.rules.specs.declared.Refusal.TheVariants as refusal
 use Rattle.rules.specs.Settings.{hash_of, with_defaults, out_of_range, Histogram, Tables}
-use Rattle.rules.specs.Answers.{Result, refused, gives, number, number_of, Got}
+use Rattle.rules.specs.Answers.{Result, refused, gives, number, number_of}
+use Rattle.rules.specs.declared.Got.{Got}
 use Rattle.rules.specs.Order.{Outcome, outcome, Judged, ◌when◌, by_order}
 use Rattle.rules.specs.Events.{overrun, write_of, read_of}
 use Rattle.rules.specs.Layout.{Tracker, fresh}

@@ -6,7 +6,8 @@ use Rattle.rules.specs.declared.Event.{Event}
 use Rattle.rules.specs.declared.Event.TheVariants.{Span}
 use Rattle.rules.specs.Lists.{keep}
 use Rattle.rules.specs.Settings.{with_defaults, Histogram, full_rate, one_reference}
-use Rattle.rules.specs.Answers.{Result, refused, gives, number, number_of, Got}
+use Rattle.rules.specs.Answers.{Result, refused, gives, number, number_of}
+use Rattle.rules.specs.declared.Got.{Got}
 use Rattle.rules.specs.Order.{outcome}
 use Rattle.rules.specs.Events.{Fits, references_of, fresh_start, overrun, overruns, read_of, write_of}
 use Rattle.rules.specs.Layout.{hash_for}

@@ -5,7 +5,8 @@ use mathlib.Core.List.{List, []}
 use native.Mathlib.Omega.{arith}
 use lib.ListN.{drop}
 use borrow.Author.Tests.{ne_eqb}
-use Rattle.rules.specs.Answers.{Result, refused, gives, Got}
+use Rattle.rules.specs.Answers.{Result, refused, gives}
+use Rattle.rules.specs.declared.Got.{Got}
 use Rattle.rules.specs.Events.{read_of}
 use Rattle.rules.specs.Layout.{Tracker}
 use Rattle.rules.specs.Calls.{apply_of}

@@ -7,7 +7,8 @@ use native.Mathlib.Nat.{add-zero}
 use native.Mathlib.Omega.{arith}
 use lib.ListN.{length, drop, length-drop}
 use lib.Seq.{drop-drop}
-use Rattle.rules.specs.Answers.{Result, refused, gives, Got}
+use Rattle.rules.specs.Answers.{Result, refused, gives}
+use Rattle.rules.specs.declared.Got.{Got}
 use Rattle.rules.specs.Events.{read_of}
 use Rattle.rules.specs.Layout.{Tracker}
 use Rattle.rules.specs.Calls.{apply_of}

@@ -1,6 +1,7 @@
 -- Document 01, "Trace events" and "The curve program": feeding the bytes of a trace, event by event. Assumes nothing.
 use Rattle.std.specs.Prelude.{ℕ, zero, suc, ◌+◌, ◌≡◌, cond, List, ◌++◌, eqb, length, take, drop}
-use Rattle.rules.specs.Answers.{Result, refused, gives, number, Got}
+use Rattle.rules.specs.Answers.{Result, refused, gives, number}
+use Rattle.rules.specs.declared.Got.{Got}
 use Rattle.rules.specs.Events.{read_of}
 use Rattle.rules.specs.Layout.{Tracker, tracker}
 use Rattle.rules.specs.Calls.{apply_of}

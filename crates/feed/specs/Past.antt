@@ -2,7 +2,8 @@
 use Rattle.std.specs.Prelude.{ℕ, ◌≡◌, Bool, true, false, ◌||◌, List, [], ◌∷◌, ◌++◌, take, drop}
 use Rattle.rules.specs.declared.Event.{Event}
 use Rattle.rules.specs.declared.Event.TheVariants.{Location, Span, Restart, Setup}
-use Rattle.rules.specs.Answers.{Result, refused, gives, Got}
+use Rattle.rules.specs.Answers.{Result, refused, gives}
+use Rattle.rules.specs.declared.Got.{Got}
 use Rattle.rules.specs.Events.{read_of, references_of, fresh_start}
 use Rattle.rules.specs.Layout.{Tracker}
 use Rattle.rules.specs.History.{Reference}

@@ -1,7 +1,8 @@
 -- Demand 1, of feeding: which event is refused, for what, and what is left then. Assumes nothing.
 use Rattle.std.specs.Prelude.{ℕ, ◌≡◌, List, [], ◌∷◌, eqb, drop}
 use Rattle.rules.specs.declared.Refusal.TheVariants as refusal
-use Rattle.rules.specs.Answers.{Result, refused, gives, Got}
+use Rattle.rules.specs.Answers.{Result, refused, gives}
+use Rattle.rules.specs.declared.Got.{Got}
 use Rattle.rules.specs.Order.{Judged, ◌when◌}
 use Rattle.rules.specs.Events.{read_of}
 use Rattle.rules.specs.Layout.{Tracker}

@@ -2,13 +2,11 @@
 use Prim.Native.Nat.{ℕ}
 use mathlib.Core.Path.{◌≡◌, sym, ◌∙◌}
 use mathlib.Core.List.{List}
-use Rattle.rules.specs.declared.Refusal.{Refusal}
 use Rattle.rules.specs.declared.Settings.{Settings}
 use Rattle.rules.specs.declared.Numbers.{Numbers}
 use Rattle.rules.specs.declared.Record.{Record}
 use Rattle.rules.specs.declared.Shape.{Shape}
 use Rattle.rules.specs.Settings.{out_of_range}
-use Rattle.rules.specs.Answers.{number}
 use Rattle.rules.specs.Events.{overrun}
 use Rattle.rules.specs.Layout.{buckets_of, tables_of}
 use Rattle.rules.specs.Conditions.{buckets_too_short, too_short, torn_record, full, stale}
@@ -18,9 +16,6 @@ Once {A} is = (r r' : A) → r ≡ is → r' ≡ is → r ≡ r'
 
 once : {A : Type 0} (is : A) → Once is
 once is r r' p q = p ∙ sym q
-
-pub number_of_once : (why : Refusal) → Once (number why)
-number_of_once why = once _
 
 pub out_of_range_once : (s : Settings) → Once (out_of_range s)
 out_of_range_once s = once _

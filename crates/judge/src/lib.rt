@@ -1,35 +1,16 @@
-// The tests that may refuse a call, each written once, and the refusals' numbers. Every function accepts any arguments.
+// The tests that may refuse a call, each written once. Every function accepts any arguments.
 #![tactic(auto)]
 
 ghost use Rattle.std.specs.Prelude.{◌≡◌, ltb};
 ghost use Rattle.rules.specs.Settings.{out_of_range, needed, outside};
-ghost use Rattle.rules.specs.Answers.{number};
 ghost use Rattle.rules.specs.Events.{overrun};
 ghost use Rattle.rules.specs.Layout.{tables_of, buckets_of};
 ghost use Rattle.rules.specs.Conditions.{buckets_too_short, too_short, torn_record, full, stale};
 
 use rules::{
     FULL_RATE, MOST_BUCKETS, MOST_KIND, MOST_LIMIT, MOST_REFERENCES, MOST_WIDTH, Numbers, Record,
-    Refusal, Settings, Shape,
+    Settings, Shape,
 };
-
-// The number of a refusal.
-pub fn number_of(why: Refusal) -> u64
-    ensures { result ≡ number why }
-{
-    match why {
-        Refusal::Settings => 1,
-        Refusal::Tables => 2,
-        Refusal::Torn => 3,
-        Refusal::Full => 4,
-        Refusal::Stale => 5,
-        Refusal::Point => 6,
-        Refusal::Short => 7,
-        Refusal::Kind => 8,
-        Refusal::Empty => 9,
-        Refusal::Overrun => 10,
-    }
-}
 
 // Whether a setting is not between 1 and `most`.
 fn outside(most: u64, setting: u64) -> bool

@@ -11,7 +11,8 @@ use denote.Ref.{Bor}
 use Rattle.rules.specs.declared.Event.{Event}
 use Rattle.rules.specs.declared.Refusal.{Refusal}
 use Rattle.rules.specs.declared.Reading.TheVariants as reading
-use Rattle.rules.specs.Answers.{Result, refused, gives, Got, number, reading_result}
+use Rattle.rules.specs.Answers.{Result, refused, gives, number, reading_result}
+use Rattle.rules.specs.declared.Got.{Got}
 use Rattle.rules.specs.Events.{read_of, unread_after, unread_of}
 use Rattle.rules.proofs.Events.{got, read_empty, taken}
 use Rattle.reader.specs.declared.Reader.{Reader}

@@ -1,7 +1,8 @@
 -- The reader, in terms of the rules of reading. Document 01, "Trace events". Assumes nothing.
 use Rattle.std.specs.Prelude.{ℕ, zero, suc, ◌+◌, List, [], ◌∷◌, length, drop}
 use Rattle.std.specs.Borrow.{Bor}
-use Rattle.rules.specs.Answers.{Result, refused, gives, Got, reading_result}
+use Rattle.rules.specs.Answers.{Result, refused, gives, reading_result}
+use Rattle.rules.specs.declared.Got.{Got}
 use Rattle.rules.specs.Events.{read_of, unread_of}
 use Rattle.reader.specs.declared.Reader.{Reader}
 use Rattle.reader.specs.declared.Moved.{Moved}

@@ -4,7 +4,7 @@ use Prim.Native.Nat.{ℕ, ◌+◌, ◌≤◌}
 use mathlib.Core.Path.{◌≡◌, refl, ap}
 use mathlib.Core.Bool.{true, false}
 use mathlib.Core.List.{List, [], ◌∷◌}
-use mathlib.Core.Option.{Option, some, none}
+use Rattle.std.specs.Prelude.{Option, Some, None}
 use native.Mathlib.Omega.{arith}
 use lib.ListN.{length, length-take}
 use lib.Dec.{ltb, eqb}
@@ -17,7 +17,9 @@ use Rattle.rules.specs.declared.Point.{Point}
 use Rattle.rules.specs.declared.PlotPoint.{PlotPoint}
 use Rattle.rules.specs.Lists.{has, upto}
 use Rattle.rules.specs.Settings.{with_defaults, out_of_range, Histogram, Tables, needed, most_references}
-use Rattle.rules.specs.Reference.{Sample, Profile, under, lowered, record_in, bucket_for, within_limit, Reply, skipped, first, again, Stepped, step}
+use Rattle.rules.specs.Reference.{Sample, Profile, under, lowered, record_in, bucket_for, within_limit, Stepped, step}
+use Rattle.rules.specs.declared.Reply.{Reply}
+use Rattle.rules.specs.declared.Reply.TheVariants.{Skipped, First, Again}
 use Rattle.rules.specs.Curve.{total_of, plot_point}
 use Rattle.rules.specs.Answers.{refused, gives, Result}
 use Rattle.rules.specs.Order.{FirstAt, refusal_at, outcome, Outcome, says, Judged}
@@ -243,19 +245,19 @@ pub step_buckets : (P : Histogram → Type 0) (hash : ℕ → ℕ) (limit : ℕ)
     → P (step hash limit f x s).left.histogram
 step_buckets P hash limit f x s same one = cases (under hash s.threshold x)
     (λ e. cases (has x s.live)
-    (λ m. rw (step_again hash limit f x s e m) (one (some (length (upto x s.live)))))
-    (λ m. rw (step_first hash limit f x s e m, within_limit_histogram hash limit s.threshold (x ∷ s.live)) (one none)))
+    (λ m. rw (step_again hash limit f x s e m) (one (Some (length (upto x s.live)))))
+    (λ m. rw (step_first hash limit f x s e m, within_limit_histogram hash limit s.threshold (x ∷ s.live)) (one None)))
     (λ e. rw (step_skipped hash limit f x s e) same)
 
 pub counted_references : (r : Reply) (n : Numbers) → (counted r n).references ≡ n.references + 1
-counted_references skipped n = refl
-counted_references first n = refl
-counted_references (again d) n = refl
+counted_references Skipped n = refl
+counted_references First n = refl
+counted_references (Again d) n = refl
 
 counted_sampled : (r : Reply) (n : Numbers) → n.sampled ≤ n.references → (counted r n).sampled ≤ n.references + 1
-counted_sampled skipped n h = omega arith
-counted_sampled first n h = omega arith
-counted_sampled (again d) n h = omega arith
+counted_sampled Skipped n h = omega arith
+counted_sampled First n h = omega arith
+counted_sampled (Again d) n h = omega arith
 
 module _ (x : ℕ) (s : Tracker) (a : Accepted x s) where
   abbrev kept : Record

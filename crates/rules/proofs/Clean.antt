@@ -3,7 +3,7 @@
 use Prim.Native.Nat.{ℕ, ◌+◌, ◌*◌, ◌≤◌, ◌<◌}
 use mathlib.Core.Path.{◌≡◌}
 use mathlib.Core.List.{List, ◌∷◌}
-use mathlib.Core.Option.{Option, some, none}
+use Rattle.std.specs.Prelude.{Option, Some, None}
 use native.Mathlib.Omega.{arith}
 use lib.ListN.{length}
 use lib.Dec.{eqb, ltb}
@@ -78,8 +78,8 @@ module _ (n start references t : ℕ) (g : Histogram) (c : Clean n start referen
 
 -- a sampled reference is recorded in a needed bucket
 pub bucket_needed : (f : Profile) → ((d : ℕ) → f.bucket_of d ≤ f.buckets) → (t : ℕ) (place : Option ℕ) → bucket_for f t place < needed f.buckets
-bucket_needed f far t (some d) = omega (arith, far (scaled_distance t d))
-bucket_needed f far t none = omega arith
+bucket_needed f far t (Some d) = omega (arith, far (scaled_distance t d))
+bucket_needed f far t None = omega arith
 
 settled_low : (hash : ℕ → ℕ) (limit t : ℕ) (l : List ℕ) (g : Histogram) → (within_limit hash limit t l g).threshold ≤ t
 unfolding within_limit
@@ -102,9 +102,9 @@ module _ (hash : ℕ → ℕ) (limit : ℕ) (f : Profile) (far : (d : ℕ) → f
       cases (has x s.live)
       (λ m. rw (step_again hash limit f x s e m)
       (clean_record (needed f.buckets) start references s.threshold s.histogram c p o _
-      (bucket_needed f far s.threshold (some (length (upto x s.live)))) s.threshold (omega arith)))
+      (bucket_needed f far s.threshold (Some (length (upto x s.live)))) s.threshold (omega arith)))
       (λ m. rw (step_first hash limit f x s e m, within_limit_histogram hash limit s.threshold (x ∷ s.live))
-      (clean_record (needed f.buckets) start references s.threshold s.histogram c p o _ (bucket_needed f far s.threshold none) _
+      (clean_record (needed f.buckets) start references s.threshold s.histogram c p o _ (bucket_needed f far s.threshold None) _
       (settled_low hash limit s.threshold (x ∷ s.live) _))))
       (λ e. rw (step_skipped hash limit f x s e)
       (clean_later (needed f.buckets) start references s.threshold s.histogram c s.threshold (omega arith)))

@@ -12,11 +12,12 @@ use lib.Seq.{sets, sets-eq}
 use borrow.Author.Tests.{eq-eqb, ne_eqb, lt-ltb, le-ltb, eqb-true, eqb-false, ltb-true, ltb-false}
 use Rattle.rules.specs.declared.Event.{Event}
 use Rattle.rules.specs.declared.Event.TheVariants.{Location, Span, Restart, Setup}
-use Rattle.rules.specs.declared.Reading.{Reading}
-use Rattle.rules.specs.declared.Reading.TheVariants as reading
-use Rattle.rules.specs.declared.Written.TheVariants as written
+use Rattle.std.specs.Prelude.{Ok}
+use Rattle.std.specs.declared.result.Result as told
+use Rattle.rules.specs.declared.Refusal.{Refusal}
 use Rattle.rules.specs.Lists.{over}
-use Rattle.rules.specs.Answers.{Result, refused, gives, Got, reading_result, written_result}
+use Rattle.rules.specs.Answers.{Result, refused, gives, result_of}
+use Rattle.rules.specs.declared.Got.{Got}
 use Rattle.rules.specs.Order.{outcome}
 use Rattle.rules.specs.Events.{number_at, event_bytes, event_length, setup_body_of, overrun, overruns, unknown, whole_length, event_of, read_of}
 use Rattle.rules.specs.Events.{if_all_there, write_of}
@@ -103,8 +104,8 @@ pub taken : (s : List ℕ) {g : Got} → read_of s ≡ gives g → (0 < g.taken)
 taken s h = rw h at (by_reading (Within s) s (λ n. tt) (λ k l. omega arith) (λ k l o. omega arith) (λ k l. omega arith) (λ k l. omega arith))
 
 -- the same of an answer, for a caller's loop
-pub got_taken : (s : List ℕ) {r : Reading} {e : Event} {n : ℕ} → reading_result r ≡ read_of s → r ≡ reading.Got e n → (0 < n) × (n ≤ length s)
-got_taken s said is = taken s (sym said ∙ ap reading_result is)
+pub got_taken : (s : List ℕ) {r : told.Result Got Refusal} {g : Got} → result_of r ≡ read_of s → r ≡ Ok g → (0 < g.taken) × (g.taken ≤ length s)
+got_taken s said is = taken s (sym said ∙ ap result_of is)
 
 -- ---- writing
 
@@ -131,11 +132,11 @@ module _ (e : Event) (buffer : List ℕ) where
 
   -- and a buffer in which they are put, with their number answered, is what writing leaves
   pub write_done : {n : ℕ} {after : List ℕ} → overruns e ≡ false → n ≡ event_length e → n ≤ length buffer → after ≡ sets buffer 0 (event_bytes e)
-      → outcome (written_result (written.Filled n)) after ≡ write_of e buffer
+      → outcome (gives n) after ≡ write_of e buffer
   write_done o size fits put = rw (size, put) (sym (write_puts o (rw size at fits)))
 
   -- where something was filled it is the event, over the front of the buffer, and it does not overrun
-  pub write_filled : (n : ℕ) (after : List ℕ) → outcome (written_result (written.Filled n)) after ≡ write_of e buffer
+  pub write_filled : (n : ℕ) (after : List ℕ) → outcome (gives n) after ≡ write_of e buffer
       → (n ≡ event_length e) × (after ≡ over (event_bytes e) buffer) × (overruns e ≡ false)
   write_filled n after w = cases (overruns e)
       (λ o. absurd (not_both (ap (λ z. z.result) (w ∙ write_overrun o)) refl))

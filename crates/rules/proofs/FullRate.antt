@@ -5,7 +5,7 @@ use Prim.Native.Nat.{ℕ, zero, suc, ◌+◌, ◌*◌, ◌/◌, ◌^◌, ◌≤�
 use mathlib.Core.Path.{◌≡◌, refl, sym, ap, ap₂, ◌∙◌}
 use mathlib.Core.Bool.{Bool, true}
 use mathlib.Core.List.{List, ◌∷◌}
-use mathlib.Core.Option.{some}
+use Rattle.std.specs.Prelude.{Some}
 use native.Mathlib.Nat.{mul-div_cancel, div-lt_iff_lt-mul, mul-le-mul_left}
 use native.Mathlib.Omega.{arith}
 use lib.ListN.{length}
@@ -128,7 +128,7 @@ module _ (hash : ℕ → ℕ) (all : (y : ℕ) → hash y < full_rate) where
         (λ w.
         let d : ℕ = length (recency (upto x past)) in
         let q : length (upto x s.live) ≡ d = ap (λ l. length (upto x l)) live_all ∙ ap length (upto_recency x past) in
-        let j : bucket_for f s.threshold (some (length (upto x s.live))) ≡ f.bucket_of d =
+        let j : bucket_for f s.threshold (Some (length (upto x s.live))) ≡ f.bucket_of d =
         (λ i. f.bucket_of (scaled_distance (still i) (q i))) ∙ ap f.bucket_of (mul-div_cancel d {n = full_rate} (lit< tt)) in
         rw (step_again hash limit f x s sampled_here (ap (has x) live_all ∙ has_recency x past ∙ w), j, still)
         (exact_record f (λ n. hits n past) m s.histogram e (f.bucket_of d) (omega (arith, c.far d)) (λ n. has x (cached n past))

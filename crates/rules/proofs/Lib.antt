@@ -1,5 +1,6 @@
 pub mod Tests
 pub mod Answers
+pub mod Unique
 pub mod Order
 pub mod Hash
 pub mod Lists

@@ -4,7 +4,7 @@ use Prim.Native.Nat.{ℕ, zero, suc, ◌+◌, ◌≤◌, ◌<◌}
 use mathlib.Core.Path.{◌≡◌, refl, sym, ap, ◌∙◌}
 use mathlib.Core.Bool.{true, false, cond}
 use mathlib.Core.List.{List, [], ◌∷◌, ◌++◌}
-use mathlib.Core.Option.{some, none}
+use Rattle.std.specs.Prelude.{Some, None}
 use native.Mathlib.Nat.{not-suc-le-zero, le_of_suc-le-suc}
 use native.Mathlib.Omega.{arith}
 use lib.ListN.{length, take, drop, length-append, length-take, length-drop, take-append-drop}
@@ -21,19 +21,19 @@ eqb_swap x y = cases (eqb x y)
     (λ e. rw e (ne_eqb y x (λ q. eqb-false x y e (sym q))))
 
 -- the place, counted from the list's own first, is how many entries stand before x
-pub place_from : (i x : ℕ) (l : List ℕ) → first_from i x l ≡ cond (has x l) (some (i + length (upto x l))) none
+pub place_from : (i x : ℕ) (l : List ℕ) → first_from i x l ≡ cond (has x l) (Some (i + length (upto x l))) None
 unfolding first_from
 place_from i x [] = refl
 place_from i x (y ∷ l) = cases (eqb x y)
-    (λ e. simp (eqb_swap x y, e) (ap some (let q : i ≡ i + 0 = omega arith in q)))
+    (λ e. simp (eqb_swap x y, e) (ap Some (let q : i ≡ i + 0 = omega arith in q)))
     (λ e. simp (eqb_swap x y, e)
     (place_from (suc i) x l
-    ∙ ap (λ n. cond (has x l) (some n) none) (let q : suc i + length (upto x l) ≡ i + suc (length (upto x l)) = omega arith in q)))
+    ∙ ap (λ n. cond (has x l) (Some n) None) (let q : suc i + length (upto x l) ≡ i + suc (length (upto x l)) = omega arith in q)))
 
-pub place_in : (x : ℕ) (l : List ℕ) → has x l ≡ true → first_place x l ≡ some (length (upto x l))
-place_in x l e = place_from 0 x l ∙ rw e (ap some (let q : 0 + length (upto x l) ≡ length (upto x l) = omega arith in q))
+pub place_in : (x : ℕ) (l : List ℕ) → has x l ≡ true → first_place x l ≡ Some (length (upto x l))
+place_in x l e = place_from 0 x l ∙ rw e (ap Some (let q : 0 + length (upto x l) ≡ length (upto x l) = omega arith in q))
 
-pub place_out : (x : ℕ) (l : List ℕ) → has x l ≡ false → first_place x l ≡ none
+pub place_out : (x : ℕ) (l : List ℕ) → has x l ≡ false → first_place x l ≡ None
 place_out x l e = place_from 0 x l ∙ rw e
 
 pub place_lt : (x : ℕ) (l : List ℕ) → has x l ≡ true → length (upto x l) < length l
@@ -41,7 +41,7 @@ place_lt x [] t = clash t refl
 place_lt x (y ∷ l) t = cases (eqb x y) (λ e. rw e (omega arith)) (λ e. rw e (omega (arith, place_lt x l (simp e at t))))
 
 -- a place that was found is in the list
-pub found_lt : (x : ℕ) (l : List ℕ) (d : ℕ) → first_place x l ≡ some d → d < length l
+pub found_lt : (x : ℕ) (l : List ℕ) (d : ℕ) → first_place x l ≡ Some d → d < length l
 found_lt x l d e = cases (has x l)
     (λ h. let q : length (upto x l) ≡ d = cc (place_in x l h) in omega (arith, place_lt x l h))
     (λ h. absurd (let z : ◌≡◌ {A = ℕ} 0 1 = cc (place_out x l h) in omega arith))

@@ -11,8 +11,8 @@ use lib.Seq.{drop-append_seam, drop-cons}
 use borrow.Author.Tests.{le-ltb}
 use Rattle.rules.specs.declared.Event.{Event}
 use Rattle.rules.specs.declared.Event.TheVariants.{Location, Span, Restart, Setup}
-use Rattle.rules.specs.declared.Written.TheVariants as written
-use Rattle.rules.specs.Answers.{Result, refused, gives, Got, written_result}
+use Rattle.rules.specs.Answers.{Result, refused, gives}
+use Rattle.rules.specs.declared.Got.{Got}
 use Rattle.rules.specs.Order.{outcome}
 use Rattle.rules.specs.Events.{bytes_of, number_at, event_bytes, event_length, overruns, read_of, unread_of, write_of, Fits, Bytes}
 use Rattle.rules.proofs.LittleEndian.{number_bytes, number_below, bytes_number}
@@ -48,7 +48,7 @@ pub round_unread : (e : Event) (rest : List ℕ) → Fits e → overruns e ≡ f
 round_unread e rest f o = rw (round e rest f o) (drop-append_seam (event_bytes e) rest)
 
 -- by the promise alone: where `write` filled n bytes of a buffer, what is unread of it then is what stood behind those n before
-pub written_unread : (e : Event) (n : ℕ) (before after : List ℕ) → Fits e → outcome (written_result (written.Filled n)) after ≡ write_of e before
+pub written_unread : (e : Event) (n : ℕ) (before after : List ℕ) → Fits e → outcome (gives n) after ≡ write_of e before
     → unread_of after ≡ drop n before
 written_unread e n before after f w =
     let k = write_filled e before n after w in

@@ -10,7 +10,7 @@ use lib.ListN.{length, get_or}
 use borrow.Author.Tests.{eqb-true, eqb-false, ltb-true, ltb-false, ne_eqb}
 use Rattle.rules.specs.Lists.{has}
 use Rattle.rules.specs.declared.Event.TheVariants.{Span}
-use Rattle.rules.specs.Reference.{Reply}
+use Rattle.rules.specs.declared.Reply.{Reply}
 use Rattle.rules.specs.Answers.{refused, gives}
 use Rattle.rules.specs.Order.{outcome}
 use Rattle.rules.specs.Events.{block_bytes, block_of, last_byte, rising, blocks_in, references_of, overrun}

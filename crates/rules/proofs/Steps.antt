@@ -5,14 +5,15 @@ use Prim.Native.Nat.{ℕ, suc, ◌≤◌, ◌<◌}
 use mathlib.Core.Path.{◌≡◌, refl, sym, ap, subst, ◌∙◌}
 use mathlib.Core.Bool.{true, false}
 use mathlib.Core.List.{List, [], ◌∷◌}
-use mathlib.Core.Option.{some, none}
+use Rattle.std.specs.Prelude.{Some, None}
 use native.Mathlib.Omega.{arith}
 use lib.ListN.{length}
 use lib.Dec.{ltb}
 use borrow.Author.Tests.{ltb-true, ltb-false, lt-ltb, le-ltb}
 use Rattle.rules.specs.Lists.{keep, has, upto, erase, without}
 use Rattle.rules.specs.Settings.{Histogram}
-use Rattle.rules.specs.Reference.{Sample, Profile, first_place, under, largest, keep_below, lowered, record_in, bucket_for, within_limit, skipped, first, again, sampled_step, step}
+use Rattle.rules.specs.Reference.{Sample, Profile, first_place, under, largest, keep_below, lowered, record_in, bucket_for, within_limit, sampled_step, step}
+use Rattle.rules.specs.declared.Reply.TheVariants.{Skipped, First, Again}
 use Rattle.rules.specs.History.{recency, different, distance, Largest}
 use Rattle.rules.proofs.Tests.{cases}
 use Rattle.rules.proofs.Lists.{keep_keep, keep_length, keep_narrow, without_out, has_keep}
@@ -23,7 +24,7 @@ use Rattle.rules.proofs.History.{recency_once, has_recency, upto_recency, recent
 -- ---- the cases of one reference
 
 module _ (hash : ℕ → ℕ) (limit : ℕ) (f : Profile) (x : ℕ) (s : Sample) where
-  pub step_skipped : under hash s.threshold x ≡ false → step hash limit f x s ≡ record { reply = skipped; left = s }
+  pub step_skipped : under hash s.threshold x ≡ false → step hash limit f x s ≡ record { reply = Skipped; left = s }
   unfolding step
   step_skipped e = rw e
 
@@ -33,19 +34,19 @@ module _ (hash : ℕ → ℕ) (limit : ℕ) (f : Profile) (x : ℕ) (s : Sample)
     step_sampled = rw e
 
     pub step_again : has x s.live ≡ true → step hash limit f x s ≡ record {
-      reply = again (length (upto x s.live));
+      reply = Again (length (upto x s.live));
       left = record {
         threshold = s.threshold;
         live = x ∷ erase x s.live;
-        histogram = record_in s.threshold (bucket_for f s.threshold (some (length (upto x s.live)))) s.histogram;
+        histogram = record_in s.threshold (bucket_for f s.threshold (Some (length (upto x s.live)))) s.histogram;
       };
     }
     unfolding sampled_step
     step_again m = step_sampled ∙ rw (place_in x s.live m, front_erase x s.live m)
 
     pub step_first : has x s.live ≡ false → step hash limit f x s ≡ record {
-      reply = first;
-      left = within_limit hash limit s.threshold (x ∷ s.live) (record_in s.threshold (bucket_for f s.threshold none) s.histogram);
+      reply = First;
+      left = within_limit hash limit s.threshold (x ∷ s.live) (record_in s.threshold (bucket_for f s.threshold None) s.histogram);
     }
     unfolding sampled_step
     step_first m = step_sampled ∙ rw (place_out x s.live m)
@@ -189,18 +190,18 @@ module _ (hash : ℕ → ℕ) (limit start : ℕ) (x : ℕ) (past : List ℕ) wh
         (λ e. rw (step_skipped hash limit f x s e) (tracked_skipped e))
 
     -- and its answer is the history's
-    pub replied_skipped : (f : Profile) → under hash t x ≡ false → (step hash limit f x s).reply ≡ skipped
+    pub replied_skipped : (f : Profile) → under hash t x ≡ false → (step hash limit f x s).reply ≡ Skipped
     replied_skipped f e = ap (λ z. z.reply) (step_skipped hash limit f x s e)
 
     live_has : under hash t x ≡ true → has x s.live ≡ has x past
     live_has e = ap (has x) tracked.live_is ∙ has_keep (under hash t) x e (recency past) ∙ has_recency x past
 
-    pub replied_first : (f : Profile) → under hash t x ≡ true → has x past ≡ false → (step hash limit f x s).reply ≡ first
+    pub replied_first : (f : Profile) → under hash t x ≡ true → has x past ≡ false → (step hash limit f x s).reply ≡ First
     replied_first f e n = ap (λ z. z.reply) (step_first hash limit f x s e (live_has e ∙ n))
 
     pub replied_again : (f : Profile) → under hash t x ≡ true → has x past ≡ true
-        → (step hash limit f x s).reply ≡ again (distance (under hash t) x past)
+        → (step hash limit f x s).reply ≡ Again (distance (under hash t) x past)
     replied_again f e n =
         let d : upto x s.live ≡ keep (under hash t) (recency (upto x past)) =
         ap (upto x) tracked.live_is ∙ upto_keep (under hash t) x e (recency past) ∙ ap (keep (under hash t)) (upto_recency x past) in
-        ap (λ z. z.reply) (step_again hash limit f x s e (live_has e ∙ n)) ∙ ap (λ l. again (length l)) d
+        ap (λ z. z.reply) (step_again hash limit f x s e (live_has e ∙ n)) ∙ ap (λ l. Again (length l)) d

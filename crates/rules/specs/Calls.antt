@@ -10,7 +10,8 @@ use Rattle.rules.specs.declared.PlotPoint.{PlotPoint}
 use Rattle.rules.specs.declared.Event.{Event}
 use Rattle.rules.specs.declared.Event.TheVariants.{Location, Span, Restart, Setup}
 use Rattle.rules.specs.Settings.{with_defaults, out_of_range, Histogram, Tables}
-use Rattle.rules.specs.Reference.{Reply, Stepped, step}
+use Rattle.rules.specs.Reference.{Stepped, step}
+use Rattle.rules.specs.declared.Reply.{Reply}
 use Rattle.rules.specs.Curve.{total_of, curve_point, plot_point}
 use Rattle.rules.specs.Answers.{Result, refused, gives}
 use Rattle.rules.specs.Order.{Outcome, outcome, Judged, ◌when◌, says, by_order}

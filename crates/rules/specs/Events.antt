@@ -6,7 +6,8 @@ use Rattle.rules.specs.declared.Refusal.TheVariants as refusal
 use Rattle.rules.specs.declared.Event.{Event}
 use Rattle.rules.specs.declared.Event.TheVariants.{Location, Span, Restart, Setup}
 use Rattle.rules.specs.Lists.{over}
-use Rattle.rules.specs.Answers.{Result, refused, gives, Got}
+use Rattle.rules.specs.Answers.{Result, refused, gives}
+use Rattle.rules.specs.declared.Got.{Got}
 use Rattle.rules.specs.Order.{Outcome, Judged, ◌when◌, says, by_order}
 use Rattle.rules.specs.History.{Reference}
 

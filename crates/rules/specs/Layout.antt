@@ -6,7 +6,9 @@ use Rattle.rules.specs.declared.Numbers.{Numbers}
 use Rattle.rules.specs.declared.Record.{Record}
 use Rattle.rules.specs.Lists.{over}
 use Rattle.rules.specs.Settings.{hash_of, Histogram, Tables, needed}
-use Rattle.rules.specs.Reference.{Sample, Profile, widths, Reply, skipped, first, again, Stepped}
+use Rattle.rules.specs.Reference.{Sample, Profile, widths, Stepped}
+use Rattle.rules.specs.declared.Reply.{Reply}
+use Rattle.rules.specs.declared.Reply.TheVariants.{Skipped, First, Again}
 
 -- a record with its tables
 pub record Tracker : Type 0 where
@@ -54,9 +56,9 @@ profile_of s = widths s.width s.buckets
 
 -- references rises by one, and sampled if the answer is not Skipped
 abbrev pub counted : Reply → Numbers → Numbers
-counted skipped n = record { references = n.references + 1; sampled = n.sampled }
-counted first n = record { references = n.references + 1; sampled = n.sampled + 1 }
-counted (again d) n = record { references = n.references + 1; sampled = n.sampled + 1 }
+counted Skipped n = record { references = n.references + 1; sampled = n.sampled }
+counted First n = record { references = n.references + 1; sampled = n.sampled + 1 }
+counted (Again d) n = record { references = n.references + 1; sampled = n.sampled + 1 }
 
 -- a step's list over the front of the location table, its buckets in theirs, its threshold and live number in the record
 abbrev pub stored : Stepped → Tracker → Tracker

@@ -5,6 +5,7 @@ pub mod Reference
 pub mod Curve
 pub mod Answers
 pub mod Order
+pub mod Kinds
 pub mod Events
 pub mod Layout
 pub mod Conditions

@@ -1,6 +1,7 @@
 -- Document 01, "One reference", over plain values. Assumes nothing.
-use Rattle.std.specs.Prelude.{ℕ, suc, ◌+◌, ◌*◌, ◌/◌, min, max, Bool, cond, List, [], ◌∷◌, ◌++◌, eqb, ltb, leb, length, get_or, take, drop, set}
-use Rattle.std.proofs.Math.Option.{Option, some, none}
+use Rattle.std.specs.Prelude.{Option, Some, None, ℕ, suc, ◌+◌, ◌*◌, ◌/◌, min, max, Bool, cond, List, [], ◌∷◌, ◌++◌, eqb, ltb, leb, length, get_or, take, drop, set}
+use Rattle.rules.specs.declared.Reply.{Reply}
+use Rattle.rules.specs.declared.Reply.TheVariants.{Skipped, First, Again}
 use Rattle.rules.specs.Lists.{keep}
 use Rattle.rules.specs.Settings.{full_rate, one_reference, Histogram}
 
@@ -26,8 +27,8 @@ widths width buckets = record {
 
 -- the place where x first occurs in a list whose own first place is numbered i
 unfoldable pub first_from : (i x : ℕ) → List ℕ → Option ℕ
-first_from i x [] = none
-first_from i x (y ∷ l) = cond (eqb y x) (some i) (first_from (suc i) x l)
+first_from i x [] = None
+first_from i x (y ∷ l) = cond (eqb y x) (Some i) (first_from (suc i) x l)
 
 -- the place, counted from 0, where x first occurs
 abbrev pub first_place : (x : ℕ) → List ℕ → Option ℕ
@@ -78,8 +79,8 @@ record_in t j g = record {
 
 -- the bucket that a sampled reference is recorded in, by its place in the live list: that of its scaled distance, or first
 abbrev pub bucket_for : Profile → (t : ℕ) → Option ℕ → ℕ
-bucket_for f t (some d) = f.bucket_of (scaled_distance t d)
-bucket_for f t none = f.buckets + 1
+bucket_for f t (Some d) = f.bucket_of (scaled_distance t d)
+bucket_for f t None = f.buckets + 1
 
 -- if more than limit are live, the threshold falls, and every entry whose hash is not below it leaves
 unfoldable pub within_limit : (ℕ → ℕ) → (limit t : ℕ) → List ℕ → Histogram → Sample
@@ -88,34 +89,29 @@ within_limit hash limit t l g =
     (record { threshold = lowered hash t l; live = keep_below hash (lowered hash t l) l; histogram = g })
     (record { threshold = t; live = l; histogram = g })
 
--- what a reference is answered
-pub data Reply : Type 0 where
-  skipped first : Reply
-  again : ℕ → Reply
-
 pub record Stepped : Type 0 where
   pub reply : Reply
   pub left : Sample
 
 -- a sampled reference, by its place in the live list
 unfoldable pub sampled_step : (ℕ → ℕ) → (limit : ℕ) → Profile → (x : ℕ) → Sample → Option ℕ → Stepped
-sampled_step hash limit f x s (some d) =
+sampled_step hash limit f x s (Some d) =
     record {
-      reply = again d;
+      reply = Again d;
       left = record {
         threshold = s.threshold;
         live = to_front d x s.live;
-        histogram = record_in s.threshold (bucket_for f s.threshold (some d)) s.histogram;
+        histogram = record_in s.threshold (bucket_for f s.threshold (Some d)) s.histogram;
       };
     }
-sampled_step hash limit f x s none =
+sampled_step hash limit f x s None =
     record {
-      reply = first;
-      left = within_limit hash limit s.threshold (x ∷ s.live) (record_in s.threshold (bucket_for f s.threshold none) s.histogram);
+      reply = First;
+      left = within_limit hash limit s.threshold (x ∷ s.live) (record_in s.threshold (bucket_for f s.threshold None) s.histogram);
     }
 
 -- one reference: Skipped if its hash is not below the threshold
 unfoldable pub step : (ℕ → ℕ) → (limit : ℕ) → Profile → (x : ℕ) → Sample → Stepped
 step hash limit f x s =
     cond (under hash s.threshold x) (sampled_step hash limit f x s (first_place x s.live))
-    (record { reply = skipped; left = s })
+    (record { reply = Skipped; left = s })

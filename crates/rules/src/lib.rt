@@ -1,6 +1,10 @@
-// The types that the crates share: settings, the record, the answers, the trace events; and the numbers of document 01. There are no
-// functions here.
+// The types that the crates share: settings, the record, the answers, the trace events; and the numbers of document 01. The only functions
+// here turn a refusal or a kind of event into its number, and a byte into a kind.
 #![tactic(auto)]
+
+ghost use Rattle.std.specs.Prelude.{◌≡◌};
+ghost use Rattle.rules.specs.Answers.{number, result_of};
+ghost use Rattle.rules.specs.Kinds.{kind_number, kind_of};
 
 // P, full rate: every hash is below it, so a threshold of P samples every location.
 pub const FULL_RATE: u64 = 0x100_0000;
@@ -80,58 +84,48 @@ pub struct Shape {
     pub width: u64,
 }
 
-// The refusals, by name.
-#[derive(Clone, Copy)]
+// The refusals, each with its number.
+#[derive(Clone, Copy, PartialEq, Eq)]
 pub enum Refusal {
     // A setting is outside its range.
-    Settings,
+    Settings = 1,
     // A lent table, or a buffer for an event, is too short.
-    Tables,
+    Tables = 2,
     // The record or a bucket holds values that no run leaves there.
-    Torn,
+    Torn = 3,
     // No more references can be counted.
-    Full,
+    Full = 4,
     // The curve does not have the shape that the caller believes.
-    Stale,
+    Stale = 5,
     // There is no point with that number.
-    Point,
+    Point = 6,
     // The bytes end before the event does.
-    Short,
+    Short = 7,
     // No event has that kind.
-    Kind,
+    Kind = 8,
     // There is nothing to report.
-    Empty,
+    Empty = 9,
     // A span passes the last byte, 2^64 - 1.
-    Overrun,
+    Overrun = 10,
 }
 
-// The answer to a setup or a restart.
-#[derive(Clone, Copy)]
-pub enum Started {
-    // The record of a fresh start.
-    Ready(Record),
-    // No record was made, and the tables are as they were.
-    Refused(Refusal),
+impl From<Refusal> for u64 {
+    ghost from_gives = { λ why n. n ≡ number why };
+
+    fn from(why: Refusal) -> u64 {
+        why as u64
+    }
 }
 
-// The answer to a reference.
+// What a reference is answered.
 #[derive(Clone, Copy)]
-pub enum Answer {
+pub enum Reply {
     // The location is not sampled.
     Skipped,
     // It was in the live list, at this place, counted from 0, which is its distance.
     Again(u64),
     // It is sampled, and was not in the live list.
     First,
-    // Nothing was counted or changed.
-    Refused(Refusal),
-}
-
-// The answer to a reference, and the record after it.
-#[derive(Clone, Copy)]
-pub struct Referred {
-    pub kept: Record,
-    pub answer: Answer,
 }
 
 // A point of the curve: its size in blocks, and hits, misses and total in units of 1/256 reference.
@@ -143,29 +137,11 @@ pub struct Point {
     pub total: u64,
 }
 
-// The answer to a request for a point.
-#[derive(Clone, Copy)]
-pub enum Pointed {
-    // The point.
-    At(Point),
-    // No point is given.
-    Refused(Refusal),
-}
-
 // A point as the desk plotter expects it: the size, and misses divided by total.
 #[derive(Clone, Copy)]
 pub struct PlotPoint {
     pub size: f64,
     pub ratio: f64,
-}
-
-// The answer to a request for a point as a pair of doubles.
-#[derive(Clone, Copy)]
-pub enum Plotted {
-    // The pair.
-    At(PlotPoint),
-    // No point is given.
-    Refused(Refusal),
 }
 
 // The body of a kind 4 event, exactly as in its bytes: zeros are not replaced by defaults.
@@ -176,6 +152,39 @@ pub struct SetupBody {
     pub width: u32,
     pub buckets: u32,
     pub kind: u8,
+}
+
+// The kinds of trace events, each with the number that its first byte is.
+#[derive(Clone, Copy, PartialEq, Eq)]
+pub enum Kind {
+    Location = 1,
+    Span = 2,
+    Restart = 3,
+    Setup = 4,
+}
+
+impl TryFrom<u8> for Kind {
+    type Error = Refusal;
+
+    ghost try_from_gives = { λ byte read. result_of read ≡ kind_of byte };
+
+    fn try_from(byte: u8) -> Result<Kind, Refusal> {
+        match byte {
+            1 => Ok(Kind::Location),
+            2 => Ok(Kind::Span),
+            3 => Ok(Kind::Restart),
+            4 => Ok(Kind::Setup),
+            _ => Err(Refusal::Kind),
+        }
+    }
+}
+
+impl From<Kind> for u8 {
+    ghost from_gives = { λ kind n. n ≡ kind_number kind };
+
+    fn from(kind: Kind) -> u8 {
+        kind as u8
+    }
 }
 
 // The trace events, kinds 1 to 4.
@@ -191,36 +200,9 @@ pub enum Event {
     Setup(SetupBody),
 }
 
-// The result of reading.
+// An event that was read, beside the number of bytes it took: what reading answers, where it does not refuse.
 #[derive(Clone, Copy)]
-pub enum Reading {
-    // An event, with the number of bytes it took.
-    Got(Event, usize),
-    // The bytes do not begin with a whole event, or it overruns.
-    Refused(Refusal),
-}
-
-// The result of writing.
-#[derive(Clone, Copy)]
-pub enum Written {
-    // How many bytes were filled.
-    Filled(usize),
-    // The buffer is as it was.
-    Refused(Refusal),
-}
-
-// The answer to a trace event.
-#[derive(Clone, Copy)]
-pub enum Taken {
-    // The event was accepted.
-    Whole,
-    // It was refused, or one of its references was; those before that one stay counted.
-    Refused(Refusal),
-}
-
-// The answer to a trace event, and the record after it, also beside a refusal.
-#[derive(Clone, Copy)]
-pub struct Applied {
-    pub kept: Record,
-    pub answer: Taken,
+pub struct Got {
+    pub event: Event,
+    pub taken: usize,
 }

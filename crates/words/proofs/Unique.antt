@@ -7,8 +7,9 @@ use mathlib.Core.List.{List}
 use Rattle.rules.specs.declared.Record.{Record}
 use Rattle.rules.specs.declared.Point.{Point}
 use Rattle.rules.specs.declared.PlotPoint.{PlotPoint}
-use Rattle.rules.specs.Reference.{Reply}
-use Rattle.rules.specs.Answers.{Result, Got}
+use Rattle.rules.specs.declared.Reply.{Reply}
+use Rattle.rules.specs.Answers.{Result}
+use Rattle.rules.specs.declared.Got.{Got}
 use Rattle.feed.specs.Feed.{End}
 use Rattle.words.specs.declared.AskedSettings.{AskedSettings}
 use Rattle.words.specs.declared.Believed.{Believed}

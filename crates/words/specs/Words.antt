@@ -11,8 +11,10 @@ use Rattle.rules.specs.declared.SetupBody.{SetupBody}
 use Rattle.rules.specs.declared.Event.{Event}
 use Rattle.rules.specs.declared.Event.TheVariants.{Location, Span, Restart, Setup}
 use Rattle.rules.specs.Lists.{over}
-use Rattle.rules.specs.Reference.{Reply, skipped, first, again}
-use Rattle.rules.specs.Answers.{Result, refused, gives, Got}
+use Rattle.rules.specs.Reference.{skipped, first, again}
+use Rattle.rules.specs.declared.Reply.{Reply}
+use Rattle.rules.specs.Answers.{Result, refused, gives}
+use Rattle.rules.specs.declared.Got.{Got}
 use Rattle.feed.specs.Feed.{End, whole, inside}
 use Rattle.words.specs.declared.AskedSettings.{AskedSettings}
 use Rattle.words.specs.declared.Believed.{Believed}

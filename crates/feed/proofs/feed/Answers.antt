@@ -5,7 +5,8 @@ use Prim.Native.Nat.{ℕ, ◌-◌, ◌<◌, ◌≤◌}
 use mathlib.Core.Path.{◌≡◌, sym, ap, ◌∙◌}
 use lib.ListN.{length, take, drop}
 use Rattle.rules.specs.declared.Event.{Event}
-use Rattle.rules.specs.Answers.{Result, gives, Got}
+use Rattle.rules.specs.Answers.{Result, gives}
+use Rattle.rules.specs.declared.Got.{Got}
 use Rattle.rules.specs.Layout.{Tracker}
 use Rattle.rules.specs.Events.{read_of}
 use Rattle.rules.proofs.Tables.{from_place_lem}
