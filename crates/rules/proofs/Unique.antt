@@ -4,7 +4,10 @@ use mathlib.Core.Path.{◌≡◌, sym, ◌∙◌}
 use Rattle.std.specs.declared.result.Result as told
 use Rattle.rules.specs.declared.Refusal.{Refusal}
 use Rattle.rules.specs.declared.Kind.{Kind}
+use Rattle.rules.specs.declared.Settings.{Settings}
+use Rattle.rules.specs.declared.SetupBody.{SetupBody}
 use Rattle.rules.specs.Answers.{number, result_of}
+use Rattle.rules.specs.Events.{settings_of}
 use Rattle.rules.specs.Kinds.{kind_number, kind_of}
 use Rattle.rules.proofs.Answers.{result_injective}
 
@@ -16,3 +19,6 @@ kind_number_once kind n m p q = p ∙ sym q
 
 pub kind_once : (byte : ℕ) (r r' : told.Result Kind Refusal) → result_of r ≡ kind_of byte → result_of r' ≡ kind_of byte → r ≡ r'
 kind_once byte r r' p q = result_injective r r' (p ∙ sym q)
+
+pub settings_once : (body : SetupBody) (s s' : Settings) → s ≡ settings_of body → s' ≡ settings_of body → s ≡ s'
+settings_once body s s' p q = p ∙ sym q

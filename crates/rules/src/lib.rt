@@ -1,9 +1,10 @@
 // The types that the crates share: settings, the record, the answers, the trace events; and the numbers of document 01. The only functions
-// here turn a refusal or a kind of event into its number, and a byte into a kind.
+// here turn one of these into another form: a refusal or a kind of event into its number, a byte into a kind, a body into settings.
 #![tactic(auto)]
 
 ghost use Rattle.std.specs.Prelude.{◌≡◌};
 ghost use Rattle.rules.specs.Answers.{number, result_of};
+ghost use Rattle.rules.specs.Events.{settings_of};
 ghost use Rattle.rules.specs.Kinds.{kind_number, kind_of};
 
 // P, full rate: every hash is below it, so a threshold of P samples every location.
@@ -152,6 +153,22 @@ pub struct SetupBody {
     pub width: u32,
     pub buckets: u32,
     pub kind: u8,
+}
+
+impl From<SetupBody> for Settings {
+    ghost from_gives = { λ body settings. settings ≡ settings_of body };
+
+    fn from(body: SetupBody) -> Settings {
+        Settings {
+            limit: body.limit as u64,
+            start: body.start as u64,
+            width: body.width as u64,
+            buckets: body.buckets as u64,
+            hashing: Hashing {
+                kind: body.kind as u64,
+            },
+        }
+    }
 }
 
 // The kinds of trace events, each with the number that its first byte is.
