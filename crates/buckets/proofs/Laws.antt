@@ -24,6 +24,7 @@ use Rattle.rules.specs.Settings.{Histogram, needed, one_reference}
 use Rattle.rules.specs.Reference.{rescaled, count_at, threshold_at, record_in}
 use Rattle.rules.specs.Curve.{sum_to, raw_to, hits_at, total_of}
 use Rattle.rules.specs.Answers.{refused, gives}
+use Rattle.rules.specs.Order.{outcome}
 use Rattle.rules.specs.Layout.{buckets_of}
 use Rattle.rules.specs.Conditions.{torn_at, any_torn, torn_to, torn_report}
 use Rattle.rules.proofs.Tests.{cases, or_left, or_right}
@@ -137,9 +138,11 @@ module _ (references t buckets : ℕ) (g : Histogram) (h : needed buckets ≤ le
   -- a bucket that is needed is recorded in unless it is torn
   pub recorded_needed : (j : ℕ) → j < needed buckets
       → recorded_of references t j g
-      ≡ cond (torn_at references t j g) (record { done = false; histogram = g }) (record { done = true; histogram = record_in t j g })
+      ≡ cond (torn_at references t j g) (outcome (refused 3) g) (outcome (gives tt) (record_in t j g))
   unfolding recorded_of unrecordable
-  recorded_needed j l = rw (lt-leb (length g.counts) j (omega arith), lt-leb (length g.thresholds) j (omega arith))
+  recorded_needed j l =
+      rw (lt-leb (length g.counts) j (omega arith), lt-leb (length g.thresholds) j (omega arith))
+      (cases (torn_at references t j g) (λ e. rw e) (λ e. rw e))
 
   -- the report of a point is torn as the rules say, or gives its hits and the total
   pub report_needed : (point : ℕ) → point ≤ needed buckets
@@ -150,7 +153,7 @@ module _ (references t buckets : ℕ) (g : Histogram) (h : needed buckets ≤ le
 
 -- no table becomes longer or shorter
 pub recorded_lengths : (references t j : ℕ) (g : Histogram)
-    → (length (recorded_of references t j g).histogram.counts ≡ length g.counts)
-    × (length (recorded_of references t j g).histogram.thresholds ≡ length g.thresholds)
+    → (length (recorded_of references t j g).left.counts ≡ length g.counts)
+    × (length (recorded_of references t j g).left.thresholds ≡ length g.thresholds)
 unfolding recorded_of
 recorded_lengths references t j g = cases (unrecordable references t j g) (λ e. rw e (refl, refl)) (λ e. rw e (simp length-set, simp length-set))

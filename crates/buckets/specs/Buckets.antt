@@ -1,42 +1,27 @@
 -- Recording in the histogram, and reporting it. Assumes nothing.
-use Rattle.std.specs.Prelude.{ℕ, ◌*◌, ◌≤◌, min, ◌≡◌, Bool, true, false, cond, ◌||◌, List, [], ◌∷◌, ltb, leb, length}
-use Rattle.std.specs.Prelude.{Result as OrRefusal, Ok, Err}
+use Rattle.std.specs.Prelude.{ℕ, ◌*◌, ◌≤◌, min, ◌≡◌, Bool, true, false, ◌||◌, List, [], ◌∷◌, Ok, Err, ltb, leb, length}
+use Rattle.std.specs.declared.result.Result as told
 use Rattle.rules.specs.declared.Refusal.{Refusal}
 use Rattle.rules.specs.Settings.{Histogram, one_reference}
 use Rattle.rules.specs.Reference.{record_in}
 use Rattle.rules.specs.Curve.{sum_to, raw_to}
 use Rattle.rules.specs.declared.Refusal.TheVariants as refusal
-use Rattle.rules.specs.Answers.{Result, refused, gives, number}
-use Rattle.rules.specs.Order.{Judged, ◌when◌, says}
-use Rattle.rules.specs.Layout.{buckets_of}
+use Rattle.rules.specs.Answers.{Result}
+use Rattle.rules.specs.Order.{Outcome, Judged, ◌when◌, says, by_order}
 use Rattle.rules.specs.Conditions.{torn_at, any_torn, torn_to}
 use Rattle.buckets.specs.declared.Sums.{Sums}
-use Rattle.buckets.specs.declared.Reported.{Reported}
-use Rattle.buckets.specs.declared.Reported.TheVariants as reported
 use Rattle.buckets.specs.declared.Adding.{Adding}
-
--- whether a reference was recorded, and the histogram afterwards
-pub record Recorded : Type 0 where
-  pub done : Bool
-  pub histogram : Histogram
-
-abbrev pub recorded : Bool → (counts thresholds : List ℕ) → Recorded
-recorded done counts thresholds = record { done = done; histogram = buckets_of counts thresholds }
 
 -- whether place j is outside a table or its bucket is torn
 unfoldable pub unrecordable : (references t j : ℕ) → Histogram → Bool
 unrecordable references t j g = leb (length g.counts) j || leb (length g.thresholds) j || torn_at references t j g
 
--- one reference recorded in bucket j under t, if it can be
-unfoldable pub recorded_of : (references t j : ℕ) → Histogram → Recorded
-recorded_of references t j g =
-    cond (unrecordable references t j g) (record { done = false; histogram = g })
-    (record { done = true; histogram = record_in t j g })
+-- one reference recorded in bucket j under t: 3 if it cannot be
+abbrev pub recorded_order : (references t j : ℕ) → Histogram → List Judged
+recorded_order references t j g = (refusal.Torn when unrecordable references t j g) ∷ []
 
--- the result of a report
-abbrev pub report_result : Reported → Result Sums
-report_result (reported.Sums s) = gives s
-report_result (reported.Refused r) = refused (number r)
+unfoldable pub recorded_of : (references t j : ℕ) → Histogram → Outcome (Unit {0}) Histogram
+recorded_of references t j g = by_order (recorded_order references t j g) tt g (record_in t j g)
 
 -- the report of the first n buckets under t: the hits at a point and the total; 2 if a table is shorter, 3 for the buckets
 abbrev pub report_order : (references t n : ℕ) → Histogram → List Judged
@@ -55,6 +40,6 @@ pub record SoFar (references t n : ℕ) (g : Histogram) (raw sum : ℕ) : Type 0
   pub sum_high : sum ≤ raw
 
 -- the buckets below n add up to this, or they are torn
-abbrev pub added_to : (references t n : ℕ) → Histogram → OrRefusal Adding Refusal → Type 0
+abbrev pub added_to : (references t n : ℕ) → Histogram → told.Result Adding Refusal → Type 0
 added_to references t n g (Ok a) = SoFar references t n g a.raw a.sum
 added_to references t n g (Err why) = (why ≡ refusal.Torn) × (torn_to references t n g ≡ true)

@@ -2,9 +2,11 @@
 #![tactic(auto)]
 
 ghost use Rattle.std.specs.Prelude.{◌≡◌, false, ◌≤◌, min, length};
+ghost use Rattle.rules.specs.Answers.{result_of};
+ghost use Rattle.rules.specs.Order.{outcome};
 ghost use Rattle.rules.specs.Layout.{buckets_of};
 ghost use Rattle.rules.specs.Conditions.{torn_bucket};
-ghost use Rattle.buckets.specs.Buckets.{report_result, recorded, recorded_of, SoFar, added_to, report_of};
+ghost use Rattle.buckets.specs.Buckets.{recorded_of, SoFar, added_to, report_of};
 
 use rules::{FULL_RATE, ONE_REFERENCE, Refusal};
 
@@ -13,15 +15,6 @@ use rules::{FULL_RATE, ONE_REFERENCE, Refusal};
 pub struct Sums {
     pub hits: u64,
     pub total: u64,
-}
-
-// The result of a report.
-#[derive(Clone, Copy)]
-pub enum Reported {
-    // Its sums.
-    Sums(Sums),
-    // Tables: a table is too short. Torn: a bucket is torn, or the sum of the raw counts is too large.
-    Refused(Refusal),
 }
 
 // The sum of some buckets' raw counts, and the sum of their counts as reported.
@@ -40,32 +33,32 @@ fn torn(count: u64, own: u32, threshold: u64, references: u32) -> bool
     (b == 0) | (b < threshold) | (FULL_RATE < b) | (most < count)
 }
 
-// Records one reference in the bucket at a place. Returns false and changes nothing if the place is outside a table or the bucket is torn.
+// Records one reference in the bucket at a place. Torn, with nothing changed: the place is outside a table, or the bucket is torn.
 pub fn record_in(
     counts: &mut [u64],
     thresholds: &mut [u32],
     at: usize,
     threshold: u64,
     references: u32,
-) -> bool
-    ensures { recorded result counts.new thresholds.new
+) -> Result<(), Refusal>
+    ensures { outcome (result_of result) (buckets_of counts.new thresholds.new)
         ≡ recorded_of references threshold at (buckets_of counts.old thresholds.old) }
 {
     if counts.len() <= at {
-        return false;
+        return Err(Refusal::Torn);
     }
     if thresholds.len() <= at {
-        return false;
+        return Err(Refusal::Torn);
     }
     let count = counts[at];
     let own = thresholds[at];
     if torn(count, own, threshold, references) {
-        return false;
+        return Err(Refusal::Torn);
     }
     let b = own as u64;
     counts[at] = count * threshold / b + ONE_REFERENCE;
     thresholds[at] = threshold as u32;
-    true
+    Ok(())
 }
 
 // Adds the buckets of a range to the sums of those before it. Torn: one is torn, or the sum of the raw counts is too large.
@@ -99,7 +92,8 @@ fn add_up(
     Ok(Adding { raw, sum })
 }
 
-// Reports the first `needed` buckets under the threshold: the hits at a point and the total, in one pass.
+// Reports the first `needed` buckets under the threshold: the hits at a point and the total, in one pass. Tables: a table is too
+// short. Torn: a bucket is torn, or the sum of the raw counts is too large.
 pub fn report(
     counts: &[u64],
     thresholds: &[u32],
@@ -107,25 +101,20 @@ pub fn report(
     point: usize,
     threshold: u64,
     references: u32,
-) -> Reported
-    ensures { report_result result ≡ report_of references threshold needed point (buckets_of counts.now thresholds.now) }
+) -> Result<Sums, Refusal>
+    ensures { result_of result ≡ report_of references threshold needed point (buckets_of counts.now thresholds.now) }
 {
     if (counts.len() < needed) | (thresholds.len() < needed) {
-        return Reported::Refused(Refusal::Tables);
+        return Err(Refusal::Tables);
     }
     let middle = point.min(needed);
     let none = Adding { raw: 0, sum: 0 };
-    let hits = match add_up(counts, thresholds, 0, middle, none, threshold, references) {
-        Ok(hits) => hits,
-        Err(why) => return Reported::Refused(why),
-    };
-    match add_up(
+    let hits = add_up(counts, thresholds, 0, middle, none, threshold, references)?;
+    let total = add_up(
         counts, thresholds, middle, needed, hits, threshold, references,
-    ) {
-        Ok(total) => Reported::Sums(Sums {
-            hits: hits.sum,
-            total: total.sum,
-        }),
-        Err(why) => Reported::Refused(why),
-    }
+    )?;
+    Ok(Sums {
+        hits: hits.sum,
+        total: total.sum,
+    })
 }
