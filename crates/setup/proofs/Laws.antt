@@ -5,9 +5,8 @@ use mathlib.Core.Bool.{true, false}
 use mathlib.Core.List.{List}
 use Rattle.rules.specs.declared.Settings.{Settings}
 use Rattle.rules.specs.declared.Record.{Record}
-use Rattle.rules.specs.declared.Started.TheVariants as started
 use Rattle.rules.specs.Settings.{Histogram, Tables, with_defaults, out_of_range}
-use Rattle.rules.specs.Answers.{refused, gives, started_result}
+use Rattle.rules.specs.Answers.{refused, gives}
 use Rattle.rules.specs.Order.{outcome}
 use Rattle.rules.specs.Layout.{buckets_of, fresh_tables, fresh_record, tables_of}
 use Rattle.rules.specs.Conditions.{too_short}
@@ -16,7 +15,7 @@ use Rattle.rules.proofs.Calls.{setup_range, setup_short, setup_accept}
 
 -- a fresh start was made
 pub started_is : {kept j : Record} (locations : List ℕ) {counts thresholds : List ℕ} {g : Histogram} → kept ≡ j → buckets_of counts thresholds ≡ g
-    → outcome (started_result (started.Ready kept)) (tables_of locations counts thresholds)
+    → outcome (gives kept) (tables_of locations counts thresholds)
     ≡ record { result = gives j; left = record { locations = locations; histogram = g } }
 started_is locations p q = λ i. record { result = gives (p i); left = record { locations = locations; histogram = q i } }
 

@@ -4,7 +4,7 @@
 ghost use Rattle.std.specs.Prelude.{◌≡◌, false, ◌≤◌, length, replicate};
 ghost use Rattle.rules.specs.Lists.{over};
 ghost use Rattle.rules.specs.Settings.{with_defaults, or_default, out_of_range};
-ghost use Rattle.rules.specs.Answers.{started_result};
+ghost use Rattle.rules.specs.Answers.{result_of};
 ghost use Rattle.rules.specs.Order.{outcome};
 ghost use Rattle.rules.specs.Layout.{buckets_of, fresh_buckets, fresh_record, tables_of};
 ghost use Rattle.rules.specs.Conditions.{buckets_too_short};
@@ -12,7 +12,7 @@ ghost use Rattle.rules.specs.Calls.{setup_of, restart_of};
 
 use rules::{
     DEFAULT_BUCKETS, DEFAULT_LIMIT, DEFAULT_START, DEFAULT_WIDTH, Numbers, Record, Refusal,
-    Settings, Started,
+    Settings,
 };
 
 fn or_default(setting: u64, default: u64) -> u64
@@ -22,30 +22,16 @@ fn or_default(setting: u64, default: u64) -> u64
 }
 
 // The settings with the defaults in place of zeros.
+#[tactic(auto, unfolding(rules::specs::Settings::with_defaults))]
 pub fn with_defaults(given: Settings) -> Settings
     ensures { result ≡ with_defaults given }
 {
-    let hashing = given.hashing;
     Settings {
         limit: or_default(given.limit, DEFAULT_LIMIT),
         start: or_default(given.start, DEFAULT_START),
         width: or_default(given.width, DEFAULT_WIDTH),
         buckets: or_default(given.buckets, DEFAULT_BUCKETS),
-        hashing,
-    }
-}
-
-// Resets the first n buckets: counts to 0, bucket thresholds to `start`.
-fn clear(counts: &mut [u64], thresholds: &mut [u32], n: usize, start: u32)
-    requires { (n ≤ length counts.old) × (n ≤ length thresholds.old) }
-    ensures counts_after { counts.new ≡ over (replicate n 0) counts.old }
-    ensures thresholds_after { thresholds.new ≡ over (replicate n start) thresholds.old }
-{
-    let mut i: usize = 0;
-    while i < n {
-        counts[i] = 0;
-        thresholds[i] = start;
-        i += 1;
+        hashing: given.hashing,
     }
 }
 
@@ -56,7 +42,9 @@ fn begin(s: Settings, counts: &mut [u64], thresholds: &mut [u32]) -> Record
     ensures thresholds_value { buckets_of counts.new thresholds.new ≡ fresh_buckets s (buckets_of counts.old thresholds.old) }
 {
     let start = s.start;
-    clear(counts, thresholds, (s.buckets + 2) as usize, start as u32);
+    let needed = (s.buckets + 2) as usize;
+    counts[..needed].fill(0);
+    thresholds[..needed].fill(start as u32);
     Record {
         settings: s,
         threshold: start,
@@ -74,18 +62,18 @@ pub fn setup(
     locations: &[u64],
     counts: &mut [u64],
     thresholds: &mut [u32],
-) -> Started
-    ensures { outcome (started_result result) (tables_of locations.now counts.new thresholds.new)
+) -> Result<Record, Refusal>
+    ensures { outcome (result_of result) (tables_of locations.now counts.new thresholds.new)
         ≡ setup_of given (tables_of locations.now counts.old thresholds.old) }
 {
     let s = with_defaults(given);
     if judge::out_of_range(s) {
-        return Started::Refused(Refusal::Settings);
+        return Err(Refusal::Settings);
     }
     if judge::too_short(s, locations, counts, thresholds) {
-        return Started::Refused(Refusal::Tables);
+        return Err(Refusal::Tables);
     }
-    Started::Ready(begin(s, counts, thresholds))
+    Ok(begin(s, counts, thresholds))
 }
 
 // A restart: a fresh start with the record's own settings.
@@ -94,16 +82,16 @@ pub fn restart(
     locations: &[u64],
     counts: &mut [u64],
     thresholds: &mut [u32],
-) -> Started
-    ensures { outcome (started_result result) (tables_of locations.now counts.new thresholds.new)
+) -> Result<Record, Refusal>
+    ensures { outcome (result_of result) (tables_of locations.now counts.new thresholds.new)
         ≡ restart_of kept (tables_of locations.now counts.old thresholds.old) }
 {
     if judge::torn(kept) {
-        return Started::Refused(Refusal::Torn);
+        return Err(Refusal::Torn);
     }
     let s = kept.settings;
     if judge::too_short(s, locations, counts, thresholds) {
-        return Started::Refused(Refusal::Tables);
+        return Err(Refusal::Tables);
     }
-    Started::Ready(begin(s, counts, thresholds))
+    Ok(begin(s, counts, thresholds))
 }

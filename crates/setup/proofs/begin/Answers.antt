@@ -1,4 +1,4 @@
--- Settings in range and buckets that are long enough let `clear` write every entry that is needed; what it leaves is the fresh histogram.
+-- Settings in range begin at a threshold of at most 2^24, which 32 bits hold.
 use native.Mathlib.Omega.{arith}
 use Rattle.rules.proofs.Bounds.{in_range}
 use Rattle.setup.proofs.begin.Goals as goal
