@@ -39,7 +39,9 @@ use Rattle.demands.proofs.Needed.{same_all, started_tables, only_needed}
 use Rattle.demands.proofs.Tracking.{threshold, live_list, numbers, whole_answers}
 use Rattle.demands.proofs.Alone.{nothing_else}
 use Rattle.demands.proofs.Points.{full_rate_lem}
-use Rattle.feed.specs.Feed.{End, whole, inside, Feeding, feed_of, left_by}
+use Rattle.feed.specs.declared.End.{End}
+use Rattle.feed.specs.declared.End.TheVariants.{Whole, Inside}
+use Rattle.feed.specs.Feed.{Feeding, feed_of, left_by}
 use Rattle.feed.specs.Past.{past_after, past_of, Events, none, references_next}
 use Rattle.feed.proofs.Laws.{Took, apply_either, by_feeding}
 use Rattle.feed.proofs.Pieces.{taken_alone}
@@ -109,13 +111,13 @@ written_number (gives n) = refl
 
 fed_number : (n : ℕ) (s : Result End) → (fed_words n s).refusal ≡ number_of s
 fed_number n (refused m) = refl
-fed_number n (gives whole) = refl
-fed_number n (gives inside) = refl
+fed_number n (gives Whole) = refl
+fed_number n (gives Inside) = refl
 
 fed_taken : (n : ℕ) (s : Result End) → (fed_words n s).taken ≡ n
 fed_taken n (refused m) = refl
-fed_taken n (gives whole) = refl
-fed_taken n (gives inside) = refl
+fed_taken n (gives Whole) = refl
+fed_taken n (gives Inside) = refl
 
 -- ---- each call of the rules but that of a span either accepts or leaves everything, with a number that is not 0
 
@@ -422,7 +424,7 @@ fed_alone bytes h e =
       between = between;
       before =
           ap (λ n. feed_in (take n bytes) h) (taken_is bytes h e) ∙ fed_by (take f.taken bytes) h false e ∙ ap (fed_in h) w.before
-          ∙ sym (ap (λ n. returned (fed_words n (gives whole)) between) (taken_is bytes h e));
+          ∙ sym (ap (λ n. returned (fed_words n (gives Whole)) between) (taken_is bytes h e));
       left_is = ap (λ o. o.left) (fed_by bytes h false e)
           ∙ ap (λ z. held (put z.kept h.words) z.tables) w.left_is
           ∙ sym (ap (λ n. (apply_in (drop n bytes) between).left) (taken_is bytes h e)

@@ -8,13 +8,16 @@ use native.Mathlib.Omega.{arith}
 use lib.Dec.{eqb}
 use lib.ListN.{length, take, drop}
 use borrow.Author.Tests.{eqb-true, eq-eqb, not-false}
+use Rattle.std.specs.Prelude.{Ok, Err, is_ok}
+use Rattle.std.specs.declared.result.Result as told
+use Rattle.rules.specs.declared.Refusal.{Refusal}
 use Rattle.rules.specs.declared.Settings.{Settings}
 use Rattle.rules.specs.declared.Record.{Record}
 use Rattle.rules.specs.declared.Event.TheVariants.{Span}
 use Rattle.rules.specs.Settings.{Tables, with_defaults, out_of_range}
-use Rattle.rules.specs.Reference.{skipped, first, again}
+use Rattle.rules.specs.declared.Reply.TheVariants.{Skipped, First, Again}
 use Rattle.rules.specs.declared.Reply.{Reply}
-use Rattle.rules.specs.Answers.{Result, refused, gives, number_of}
+use Rattle.rules.specs.Answers.{Result, refused, gives, number_of, result_of}
 use Rattle.rules.specs.declared.Got.{Got}
 use Rattle.rules.specs.Order.{Outcome, outcome}
 use Rattle.rules.specs.Events.{event_bytes, Fits, overrun, read_of, write_of}
@@ -40,9 +43,9 @@ use Rattle.driver.specs.Calls.{span_in, apply_in, fed_in, fed_from, feed_in}
 -- the refusal stands first
 pub answer_number : (s : Result Reply) → (answer_words s).refusal ≡ number_of s
 answer_number (refused n) = refl
-answer_number (gives skipped) = refl
-answer_number (gives first) = refl
-answer_number (gives (again d)) = refl
+answer_number (gives Skipped) = refl
+answer_number (gives First) = refl
+answer_number (gives (Again d)) = refl
 
 -- a record that is stored only if it is another than the words' own is stored
 pub stored_put : (b : Bool) (kept : Record) (w : List ℕ) → (b ≡ false → kept ≡ record_of w) → stored_if b kept w ≡ put kept w
@@ -76,21 +79,24 @@ module _ {A B : Type 0} (words : Result A → B) (call : Tracker → Outcome A T
 
 -- ---- a reference
 
-pub refer_stored : (x : ℕ) (h : Held) {s : Result Reply} {kept : Record} {t : Tables} {r : AnswerWords} {w : List ℕ} → few_words h.words ≡ false
-    → outcome s (record { kept = kept; tables = t }) ≡ refer_of x (tracker_in h) → r ≡ answer_words s
-    → w ≡ stored_if (eqb r.refusal 0) kept h.words → returned r (held w t) ≡ refer_in x h
-refer_stored x h {s} {kept} {r = r} enough e is stored =
-    stored_by answer_words (refer_of x) h enough e is (stored ∙ stored_put (eqb r.refusal 0) kept h.words own)
+pub refer_stored : (x : ℕ) (h : Held) {answer : told.Result Reply Refusal} {kept : Record} {t : Tables} {r : AnswerWords} {w : List ℕ}
+    → few_words h.words ≡ false → outcome (result_of answer) (record { kept = kept; tables = t }) ≡ refer_of x (tracker_in h)
+    → r ≡ answer_words (result_of answer) → w ≡ stored_if (is_ok answer) kept h.words → returned r (held w t) ≡ refer_in x h
+refer_stored x h {answer} {kept} enough e is stored =
+    stored_by answer_words (refer_of x) h enough e is (stored ∙ stored_put (is_ok answer) kept h.words own)
   where
     -- a refused reference leaves the words' own record
-    own : eqb r.refusal 0 ≡ false → kept ≡ record_of h.words
+    refused_is : (a : told.Result Reply Refusal) → is_ok a ≡ false → (y : Reply) → result_of a ≡ gives y → ⊥
+    refused_is (Ok y) z = clash z refl
+    refused_is (Err why) z y q = absurd (not_both q refl)
+
+    own : is_ok answer ≡ false → kept ≡ record_of h.words
     own z = refer_either x (tracker_in h)
-        (λ a. clash (eq-eqb r.refusal 0
-        (ap (λ v. v.refusal) is ∙ answer_number s ∙ ap (λ o. number_of o.result) (e ∙ refer_accept x (tracker_in h) a))) z)
+        (λ a. absurd (refused_is answer z _ (ap (λ o. o.result) (e ∙ refer_accept x (tracker_in h) a))))
         (λ n q. ap (λ o. o.left.kept) (e ∙ q))
 
 pub refer_skipped : (x : ℕ) (h : Held) {kept : Record} {r : AnswerWords} {w : List ℕ} → few_words h.words ≡ false
-    → outcome (gives skipped) (record { kept = kept; tables = h.tables }) ≡ refer_of x (tracker_in h) → r ≡ answer_words (gives skipped)
+    → outcome (gives Skipped) (record { kept = kept; tables = h.tables }) ≡ refer_of x (tracker_in h) → r ≡ answer_words (gives Skipped)
     → w ≡ stored_if true kept h.words → returned r (held w h.tables) ≡ refer_in x h
 refer_skipped x h enough e is stored = stored_by answer_words (refer_of x) h enough e is stored
 

@@ -19,7 +19,8 @@ use Rattle.demands.specs.Spans.{Made, OneByOne}
 use Rattle.demands.specs.Refusing.{is_span, AnotherShape, stale_or}
 use Rattle.demands.specs.Needed.{needed_by, SameBeyond, settings_under, most_needed}
 use Rattle.demands.specs.Statements.{history_reply, in_force, size_at, Alone}
-use Rattle.feed.specs.Feed.{whole, feed_of}
+use Rattle.feed.specs.declared.End.TheVariants.{Whole}
+use Rattle.feed.specs.Feed.{feed_of}
 use Rattle.feed.specs.Past.{past_after, past_of, any_fresh_start, Events, references_next}
 use Rattle.words.specs.declared.PointWords.{PointWords}
 use Rattle.words.specs.declared.WrittenWords.{WrittenWords}
@@ -71,7 +72,7 @@ pub record LeftAsItWas : Type 0 where
 -- refused, that event is, by the same number
 pub record FedThenApplied (bytes : List ℕ) (h : Held) : Type 0 where
   pub between : Held
-  pub before : let n = (feed_in bytes h).value.taken in feed_in (take n bytes) h ≡ returned (fed_words n (gives whole)) between
+  pub before : let n = (feed_in bytes h).value.taken in feed_in (take n bytes) h ≡ returned (fed_words n (gives Whole)) between
   pub left_is : (feed_in bytes h).left ≡ (apply_in (drop (feed_in bytes h).value.taken bytes) between).left
   pub same_refusal : ((feed_in bytes h).value.refusal ≡ 0 → ⊥)
       → (apply_in (drop (feed_in bytes h).value.taken bytes) between).value.refusal ≡ (feed_in bytes h).value.refusal

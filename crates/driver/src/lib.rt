@@ -6,19 +6,16 @@
 
 ghost use Rattle.std.specs.Prelude.{◌≡◌};
 ghost use Rattle.rules.specs.Layout.{buckets_of, tables_of};
+ghost use Rattle.rules.specs.Answers.{number};
 ghost use Rattle.words.specs.Words.{settings_from, shape_from, returned};
 ghost use Rattle.driver.specs.Calls.{version, held, setup_body_from, few_for_setup};
 ghost use Rattle.rules.specs.Events.{Fits};
 ghost use Rattle.driver.specs.Calls.{hash_in, setup_in, restart_in, refer_in, span_in, point_in, plot_in, apply_in, fed_from, feed_in, read_in, write_in};
 
-use feed::Ending;
-use refer::Skipping;
-use rules::{Answer, Event, Hashing, Plotted, Pointed, Reading, Refusal, Settings, SetupBody};
+use rules::{Event, Hashing, Refusal, Reply, Settings, SetupBody};
 use words::{
     AnswerWords, AppliedWords, AskedSettings, Believed, EventWords, FedWords, PlotWords,
-    PointWords, WrittenWords, answer_words, applied_words, event_words, fed_words, plot_words,
-    point_words, record_of, settings_from, shape_from, store_if, store_started, too_few,
-    written_words,
+    PointWords, WrittenWords, fed_words, record_of, store_if, store_started, too_few,
 };
 
 // The version of this interface. It is part of the exported names of setup, apply and feed: the calls that can set a tracker up.
@@ -42,13 +39,13 @@ pub extern "C" fn rockgingham_hash(kind: u64, location: u64) -> u64
 // ---- starts and references
 
 // Why a setup is refused whose record has too few words: 1 comes before 2.
-fn few_for_setup(settings: Settings) -> u64
-    ensures { result ≡ few_for_setup settings }
+fn few_for_setup(settings: Settings) -> Refusal
+    ensures { number result ≡ few_for_setup settings }
 {
     if judge::out_of_range(setup::with_defaults(settings)) {
-        return judge::number_of(Refusal::Settings);
+        return Refusal::Settings;
     }
-    judge::number_of(Refusal::Tables)
+    Refusal::Tables
 }
 
 // A fresh start with these settings.
@@ -63,9 +60,9 @@ pub extern "C" fn rockgingham_setup_v2(
     ensures { returned result (held words.new (tables_of locations.now counts.new thresholds.new))
         ≡ setup_in (settings_from asked) (held words.old (tables_of locations.now counts.old thresholds.old)) }
 {
-    let settings = settings_from(asked);
+    let settings = Settings::from(asked);
     if too_few(words) {
-        return few_for_setup(settings);
+        return few_for_setup(settings).into();
     }
     let started = setup::setup(settings, locations, counts, thresholds);
     store_started(words, started)
@@ -83,7 +80,7 @@ pub extern "C" fn rockgingham_restart(
         ≡ restart_in (held words.old (tables_of locations.now counts.old thresholds.old)) }
 {
     if too_few(words) {
-        return judge::number_of(Refusal::Tables);
+        return Refusal::Tables.into();
     }
     let started = setup::restart(record_of(words), locations, counts, thresholds);
     store_started(words, started)
@@ -102,18 +99,16 @@ pub extern "C" fn rockgingham_refer(
         ≡ refer_in location (held words.old (tables_of locations.old counts.old thresholds.old)) }
 {
     if too_few(words) {
-        return answer_words(Answer::Refused(Refusal::Tables));
+        return AnswerWords::from(Err(Refusal::Tables));
     }
-    let kept = record_of(words);
-    if let Skipping::Counted(after) = refer::skip(kept, location, locations, counts, thresholds) {
+    let mut kept = record_of(words);
+    if let Some(after) = refer::skip(kept, location, locations, counts, thresholds) {
         store_if(words, true, after);
-        return answer_words(Answer::Skipped);
+        return AnswerWords::from(Ok(Reply::Skipped));
     }
-    let referred = refer::refer(record_of(words), location, locations, counts, thresholds);
-    let reply = referred.answer;
-    let given = answer_words(reply);
-    store_if(words, given.refusal == 0, referred.kept);
-    given
+    let answer = refer::refer(&mut kept, location, locations, counts, thresholds);
+    store_if(words, answer.is_ok(), kept);
+    answer.into()
 }
 
 // Feeds the bytes, and stores the record if an event was taken or a reference of the refused one was accepted. Each call that applies an
@@ -128,12 +123,12 @@ fn feed_stored(
     ensures { returned result (held words.new (tables_of locations.new counts.new thresholds.new))
         ≡ fed_from bytes.now (held words.old (tables_of locations.old counts.old thresholds.old)) }
 {
-    let kept = record_of(words);
-    let fed = feed::feed(kept, bytes, locations, counts, thresholds);
-    let ending = fed.ending;
-    let counted = fed.kept.numbers.references != kept.numbers.references;
-    store_if(words, (fed.taken != 0) | counted, fed.kept);
-    fed_words(fed.taken, ending)
+    let before = record_of(words);
+    let mut kept = before;
+    let fed = feed::feed(&mut kept, bytes, locations, counts, thresholds);
+    let counted = kept.numbers.references != before.numbers.references;
+    store_if(words, (fed.taken != 0) | counted, kept);
+    fed_words(fed.taken, fed.ending)
 }
 
 // One I/O: a reference to each block that holds one of its bytes, as in its event, which is fed.
@@ -150,10 +145,10 @@ pub extern "C" fn rockgingham_refer_span(
         ≡ span_in offset length (held words.old (tables_of locations.old counts.old thresholds.old)) }
 {
     if judge::overruns(offset, length) {
-        return judge::number_of(Refusal::Overrun);
+        return Refusal::Overrun.into();
     }
     if too_few(words) {
-        return judge::number_of(Refusal::Tables);
+        return Refusal::Tables.into();
     }
     let mut event: [u8; 13] = [0; 13];
     writing::write(Event::Span { offset, length }, &mut event);
@@ -174,10 +169,9 @@ pub extern "C" fn rockgingham_point(
     ensures { result ≡ point_in words.now (shape_from believed) number (buckets_of counts.now thresholds.now) }
 {
     if too_few(words) {
-        return point_words(Pointed::Refused(Refusal::Tables));
+        return PointWords::from(Err(Refusal::Tables));
     }
-    let shape = shape_from(believed);
-    point_words(points::point(record_of(words), shape, number, counts, thresholds))
+    points::point(record_of(words), believed.into(), number, counts, thresholds).into()
 }
 
 // The same point as a pair of doubles: the size, and misses divided by total.
@@ -192,10 +186,9 @@ pub extern "C" fn rockgingham_plot(
     ensures { result ≡ plot_in words.now (shape_from believed) number (buckets_of counts.now thresholds.now) }
 {
     if too_few(words) {
-        return plot_words(Plotted::Refused(Refusal::Tables));
+        return PlotWords::from(Err(Refusal::Tables));
     }
-    let shape = shape_from(believed);
-    plot_words(points::plot_point(record_of(words), shape, number, counts, thresholds))
+    points::plot_point(record_of(words), believed.into(), number, counts, thresholds).into()
 }
 
 // ---- trace events
@@ -213,17 +206,11 @@ pub extern "C" fn rockgingham_apply_v2(
         ≡ apply_in bytes.now (held words.old (tables_of locations.old counts.old thresholds.old)) }
 {
     if too_few(words) {
-        return applied_words(fed_words(0, Ending::Refused(Refusal::Tables)));
+        return fed_words(0, Err(Refusal::Tables)).into();
     }
     match reading::read(bytes) {
-        Reading::Got(_, taken) => applied_words(feed_stored(
-            words,
-            &bytes[..taken],
-            locations,
-            counts,
-            thresholds,
-        )),
-        Reading::Refused(why) => applied_words(fed_words(0, Ending::Refused(why))),
+        Ok(got) => feed_stored(words, &bytes[..got.taken], locations, counts, thresholds).into(),
+        Err(why) => fed_words(0, Err(why)).into(),
     }
 }
 
@@ -240,7 +227,7 @@ pub extern "C" fn rockgingham_feed_v2(
         ≡ feed_in bytes.now (held words.old (tables_of locations.old counts.old thresholds.old)) }
 {
     if too_few(words) {
-        return fed_words(0, Ending::Refused(Refusal::Tables));
+        return fed_words(0, Err(Refusal::Tables));
     }
     feed_stored(words, bytes, locations, counts, thresholds)
 }
@@ -250,7 +237,7 @@ pub extern "C" fn rockgingham_feed_v2(
 pub extern "C" fn rockgingham_read(bytes: &[u8]) -> EventWords
     ensures { result ≡ read_in bytes.now }
 {
-    event_words(reading::read(bytes))
+    reading::read(bytes).into()
 }
 
 // Each kind of event has its own function for writing, whose parameters can hold only what the event can.
@@ -259,7 +246,7 @@ pub extern "C" fn rockgingham_write_location(location: u64, buffer: &mut [u8]) -
     ensures buffer_after { returned result buffer.new ≡ write_in (Event.Location location) buffer.old }
     ensures fits { Fits (Event.Location location) }
 {
-    written_words(writing::write(Event::Location(location), buffer))
+    writing::write(Event::Location(location), buffer).into()
 }
 
 #[unsafe(no_mangle)]
@@ -271,7 +258,7 @@ pub extern "C" fn rockgingham_write_span(
     ensures buffer_after { returned result buffer.new ≡ write_in (Event.Span offset length) buffer.old }
     ensures fits { Fits (Event.Span offset length) }
 {
-    written_words(writing::write(Event::Span { offset, length }, buffer))
+    writing::write(Event::Span { offset, length }, buffer).into()
 }
 
 #[unsafe(no_mangle)]
@@ -279,7 +266,7 @@ pub extern "C" fn rockgingham_write_restart(buffer: &mut [u8]) -> WrittenWords
     ensures buffer_after { returned result buffer.new ≡ write_in Event.Restart buffer.old }
     ensures fits { Fits Event.Restart }
 {
-    written_words(writing::write(Event::Restart, buffer))
+    writing::write(Event::Restart, buffer).into()
 }
 
 #[unsafe(no_mangle)]
@@ -302,5 +289,5 @@ pub extern "C" fn rockgingham_write_setup(
         buckets,
         kind,
     };
-    written_words(writing::write(Event::Setup(body), buffer))
+    writing::write(Event::Setup(body), buffer).into()
 }

@@ -10,7 +10,7 @@ use Rattle.rules.specs.declared.PlotPoint.{PlotPoint}
 use Rattle.rules.specs.declared.Reply.{Reply}
 use Rattle.rules.specs.Answers.{Result}
 use Rattle.rules.specs.declared.Got.{Got}
-use Rattle.feed.specs.Feed.{End}
+use Rattle.feed.specs.declared.End.{End}
 use Rattle.words.specs.declared.AskedSettings.{AskedSettings}
 use Rattle.words.specs.declared.Believed.{Believed}
 use Rattle.words.specs.declared.FedWords.{FedWords}

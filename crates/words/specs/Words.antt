@@ -11,11 +11,12 @@ use Rattle.rules.specs.declared.SetupBody.{SetupBody}
 use Rattle.rules.specs.declared.Event.{Event}
 use Rattle.rules.specs.declared.Event.TheVariants.{Location, Span, Restart, Setup}
 use Rattle.rules.specs.Lists.{over}
-use Rattle.rules.specs.Reference.{skipped, first, again}
+use Rattle.rules.specs.declared.Reply.TheVariants.{Skipped, First, Again}
 use Rattle.rules.specs.declared.Reply.{Reply}
 use Rattle.rules.specs.Answers.{Result, refused, gives}
 use Rattle.rules.specs.declared.Got.{Got}
-use Rattle.feed.specs.Feed.{End, whole, inside}
+use Rattle.feed.specs.declared.End.{End}
+use Rattle.feed.specs.declared.End.TheVariants.{Whole, Inside}
 use Rattle.words.specs.declared.AskedSettings.{AskedSettings}
 use Rattle.words.specs.declared.Believed.{Believed}
 use Rattle.words.specs.declared.AnswerWords.{AnswerWords}
@@ -81,9 +82,9 @@ stored_start (gives kept) w = returned 0 (put kept w)
 -- 0 Skipped, 1 Again with the distance, 2 First
 abbrev pub answer_words : Result Reply → AnswerWords
 answer_words (refused n) = record { refusal = n; reply = 0; distance = 0 }
-answer_words (gives skipped) = record { refusal = 0; reply = 0; distance = 0 }
-answer_words (gives (again d)) = record { refusal = 0; reply = 1; distance = d }
-answer_words (gives first) = record { refusal = 0; reply = 2; distance = 0 }
+answer_words (gives Skipped) = record { refusal = 0; reply = 0; distance = 0 }
+answer_words (gives (Again d)) = record { refusal = 0; reply = 1; distance = d }
+answer_words (gives First) = record { refusal = 0; reply = 2; distance = 0 }
 
 abbrev pub point_words : Result Point → PointWords
 point_words (refused n) = record { refusal = n; size = 0; hits = 0; misses = 0; total = 0 }
@@ -129,8 +130,8 @@ written_words (gives filled) = record { refusal = 0; length = filled }
 -- the bytes taken stand beside a refusal too
 abbrev pub fed_words : (taken : ℕ) → Result End → FedWords
 fed_words taken (refused n) = record { refusal = n; taken = taken; incomplete = 0 }
-fed_words taken (gives whole) = record { refusal = 0; taken = taken; incomplete = 0 }
-fed_words taken (gives inside) = record { refusal = 0; taken = taken; incomplete = 1 }
+fed_words taken (gives Whole) = record { refusal = 0; taken = taken; incomplete = 0 }
+fed_words taken (gives Inside) = record { refusal = 0; taken = taken; incomplete = 1 }
 
 -- an event that was fed alone, as one that was applied
 abbrev pub applied_from : FedWords → AppliedWords

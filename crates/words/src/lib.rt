@@ -3,16 +3,15 @@
 #![tactic(auto)]
 
 ghost use Rattle.std.specs.Prelude.{◌≡◌, get_or};
-ghost use Rattle.rules.specs.Answers.{started_result, reply_result, point_result, plot_result, reading_result, written_result};
-ghost use Rattle.feed.specs.Feed.{ending_result};
+ghost use Rattle.rules.specs.Answers.{result_of};
 ghost use Rattle.words.specs.Words.{settings_from, shape_from, few_words, record_of, words_of, put, stored_if, stored_start};
 ghost use Rattle.words.specs.Words.{answer_words, point_words, plot_words, no_settings, asked_by, got_words, event_words};
 ghost use Rattle.words.specs.Words.{written_words, fed_words, applied_from, returned};
 
-use feed::Ending;
+use feed::End;
 use rules::{
-    Answer, Event, Hashing, Numbers, Plotted, Pointed, Reading, Record, Settings, SetupBody, Shape,
-    Started, Written,
+    Event, Got, Hashing, Kind, Numbers, PlotPoint, Point, Record, Refusal, Reply, Settings,
+    SetupBody, Shape,
 };
 
 // How many words a record has.
@@ -25,7 +24,7 @@ const ACCEPTED: u64 = 0;
 
 // The settings asked for. A zero stands for the default, except for the hash kind.
 #[repr(C)]
-#[derive(Clone, Copy)]
+#[derive(Clone, Copy, Default)]
 pub struct AskedSettings {
     pub limit: u64,
     pub start: u64,
@@ -42,24 +41,28 @@ pub struct Believed {
     pub width: u64,
 }
 
-pub fn settings_from(asked: AskedSettings) -> Settings
-    ensures { result ≡ settings_from asked }
-{
-    Settings {
-        limit: asked.limit,
-        start: asked.start,
-        width: asked.width,
-        buckets: asked.buckets,
-        hashing: Hashing { kind: asked.kind },
+impl From<AskedSettings> for Settings {
+    ghost from_gives = { λ asked settings. settings ≡ settings_from asked };
+
+    fn from(asked: AskedSettings) -> Settings {
+        Settings {
+            limit: asked.limit,
+            start: asked.start,
+            width: asked.width,
+            buckets: asked.buckets,
+            hashing: Hashing { kind: asked.kind },
+        }
     }
 }
 
-pub fn shape_from(believed: Believed) -> Shape
-    ensures { result ≡ shape_from believed }
-{
-    Shape {
-        buckets: believed.buckets,
-        width: believed.width,
+impl From<Believed> for Shape {
+    ghost from_gives = { λ believed shape. shape ≡ shape_from believed };
+
+    fn from(believed: Believed) -> Shape {
+        Shape {
+            buckets: believed.buckets,
+            width: believed.width,
+        }
     }
 }
 
@@ -76,7 +79,7 @@ pub fn too_few(words: &[u64]) -> bool
 fn word(words: &[u64], place: usize) -> u64
     ensures { result ≡ get_or words.now place 0 }
 {
-    if place < words.len() { words[place] } else { 0 }
+    words.get(place).copied().unwrap_or(0)
 }
 
 // The record that the words stand for, missing words being 0. Only this function and words_of know the order of the words.
@@ -103,7 +106,7 @@ pub fn record_of(words: &[u64]) -> Record
 }
 
 // The words of a record.
-fn words_of(kept: Record) -> [u64; 9]
+fn words_of(kept: Record) -> [u64; RECORD_WORDS]
     ensures { result ≡ words_of kept }
 {
     let s = kept.settings;
@@ -125,15 +128,10 @@ fn words_of(kept: Record) -> [u64; 9]
 fn put(words: &mut [u64], kept: Record)
     ensures { words.new ≡ put kept words.old }
 {
-    let new = words_of(kept);
-    if words.len() < RECORD_WORDS {
+    if too_few(words) {
         return;
     }
-    let mut i: usize = 0;
-    while i < RECORD_WORDS {
-        words[i] = new[i];
-        i += 1;
-    }
+    words[..RECORD_WORDS].copy_from_slice(&words_of(kept));
 }
 
 // Stores the record that a call leaves, if it is said to have changed; otherwise nothing.
@@ -146,15 +144,15 @@ pub fn store_if(words: &mut [u64], changed: bool, kept: Record)
 }
 
 // Stores the record of a fresh start, and returns 0 or the refusal's number.
-pub fn store_started(words: &mut [u64], answer: Started) -> u64
-    ensures { returned result words.new ≡ stored_start (started_result answer) words.old }
+pub fn store_started(words: &mut [u64], answer: Result<Record, Refusal>) -> u64
+    ensures { returned result words.new ≡ stored_start (result_of answer) words.old }
 {
     match answer {
-        Started::Ready(kept) => {
+        Ok(kept) => {
             put(words, kept);
             ACCEPTED
         }
-        Started::Refused(why) => judge::number_of(why),
+        Err(why) => why.into(),
     }
 }
 
@@ -162,7 +160,7 @@ pub fn store_started(words: &mut [u64], answer: Started) -> u64
 
 // A reference: 0 Skipped, 1 Again with the distance, 2 First.
 #[repr(C)]
-#[derive(Clone, Copy)]
+#[derive(Clone, Copy, Default)]
 pub struct AnswerWords {
     pub refusal: u64,
     pub reply: u64,
@@ -171,7 +169,7 @@ pub struct AnswerWords {
 
 // A point of the curve.
 #[repr(C)]
-#[derive(Clone, Copy)]
+#[derive(Clone, Copy, Default)]
 pub struct PointWords {
     pub refusal: u64,
     pub size: u64,
@@ -182,7 +180,7 @@ pub struct PointWords {
 
 // The same point as a pair of doubles: the size, and misses divided by total.
 #[repr(C)]
-#[derive(Clone, Copy)]
+#[derive(Clone, Copy, Default)]
 pub struct PlotWords {
     pub refusal: u64,
     pub size: f64,
@@ -191,7 +189,7 @@ pub struct PlotWords {
 
 // An event: its kind, how many bytes it took, and its numbers; those that its kind does not have are 0.
 #[repr(C)]
-#[derive(Clone, Copy)]
+#[derive(Clone, Copy, Default)]
 pub struct EventWords {
     pub refusal: u64,
     pub kind: u64,
@@ -204,7 +202,7 @@ pub struct EventWords {
 
 // An event that was applied: how many bytes it took.
 #[repr(C)]
-#[derive(Clone, Copy)]
+#[derive(Clone, Copy, Default)]
 pub struct AppliedWords {
     pub refusal: u64,
     pub taken: u64,
@@ -212,7 +210,7 @@ pub struct AppliedWords {
 
 // An event that was written: how many bytes it has.
 #[repr(C)]
-#[derive(Clone, Copy)]
+#[derive(Clone, Copy, Default)]
 pub struct WrittenWords {
     pub refusal: u64,
     pub length: u64,
@@ -220,210 +218,196 @@ pub struct WrittenWords {
 
 // A piece of a trace: how many bytes were taken, and whether the bytes after them are the beginning of an event.
 #[repr(C)]
-#[derive(Clone, Copy)]
+#[derive(Clone, Copy, Default)]
 pub struct FedWords {
     pub refusal: u64,
     pub taken: u64,
     pub incomplete: u64,
 }
 
-pub fn answer_words(answer: Answer) -> AnswerWords
-    ensures { result ≡ answer_words (reply_result answer) }
-{
-    match answer {
-        Answer::Skipped => AnswerWords {
-            refusal: ACCEPTED,
-            reply: 0,
-            distance: 0,
-        },
-        Answer::Again(place) => AnswerWords {
-            refusal: ACCEPTED,
-            reply: 1,
-            distance: place,
-        },
-        Answer::First => AnswerWords {
-            refusal: ACCEPTED,
-            reply: 2,
-            distance: 0,
-        },
-        Answer::Refused(why) => AnswerWords {
-            refusal: judge::number_of(why),
-            reply: 0,
-            distance: 0,
-        },
+impl From<Result<Reply, Refusal>> for AnswerWords {
+    ghost from_gives = { λ answer words. words ≡ answer_words (result_of answer) };
+
+    fn from(answer: Result<Reply, Refusal>) -> AnswerWords {
+        match answer {
+            Ok(Reply::Skipped) => AnswerWords {
+                refusal: ACCEPTED,
+                reply: 0,
+                distance: 0,
+            },
+            Ok(Reply::Again(place)) => AnswerWords {
+                refusal: ACCEPTED,
+                reply: 1,
+                distance: place,
+            },
+            Ok(Reply::First) => AnswerWords {
+                refusal: ACCEPTED,
+                reply: 2,
+                distance: 0,
+            },
+            Err(why) => AnswerWords {
+                refusal: why.into(),
+                ..AnswerWords::default()
+            },
+        }
     }
 }
 
-pub fn point_words(answer: Pointed) -> PointWords
-    ensures { result ≡ point_words (point_result answer) }
-{
-    match answer {
-        Pointed::At(p) => PointWords {
-            refusal: ACCEPTED,
-            size: p.size,
-            hits: p.hits,
-            misses: p.misses,
-            total: p.total,
-        },
-        Pointed::Refused(why) => PointWords {
-            refusal: judge::number_of(why),
-            size: 0,
-            hits: 0,
-            misses: 0,
-            total: 0,
-        },
+impl From<Result<Point, Refusal>> for PointWords {
+    ghost from_gives = { λ answer words. words ≡ point_words (result_of answer) };
+
+    fn from(answer: Result<Point, Refusal>) -> PointWords {
+        match answer {
+            Ok(p) => PointWords {
+                refusal: ACCEPTED,
+                size: p.size,
+                hits: p.hits,
+                misses: p.misses,
+                total: p.total,
+            },
+            Err(why) => PointWords {
+                refusal: why.into(),
+                ..PointWords::default()
+            },
+        }
     }
 }
 
-pub fn plot_words(answer: Plotted) -> PlotWords
-    ensures { result ≡ plot_words (plot_result answer) }
-{
-    match answer {
-        Plotted::At(p) => PlotWords {
-            refusal: ACCEPTED,
-            size: p.size,
-            ratio: p.ratio,
-        },
-        Plotted::Refused(why) => PlotWords {
-            refusal: judge::number_of(why),
-            size: 0.0,
-            ratio: 0.0,
-        },
-    }
-}
+impl From<Result<PlotPoint, Refusal>> for PlotWords {
+    ghost from_gives = { λ answer words. words ≡ plot_words (result_of answer) };
 
-// No settings: what an event other than a setup has.
-fn no_settings() -> AskedSettings
-    ensures { result ≡ no_settings }
-{
-    AskedSettings {
-        limit: 0,
-        start: 0,
-        width: 0,
-        buckets: 0,
-        kind: 0,
+    fn from(answer: Result<PlotPoint, Refusal>) -> PlotWords {
+        match answer {
+            Ok(p) => PlotWords {
+                refusal: ACCEPTED,
+                size: p.size,
+                ratio: p.ratio,
+            },
+            Err(why) => PlotWords {
+                refusal: why.into(),
+                ..PlotWords::default()
+            },
+        }
     }
 }
 
 // The settings that a setup event asks for.
-fn asked_by(body: SetupBody) -> AskedSettings
-    ensures { result ≡ asked_by body }
-{
-    AskedSettings {
-        limit: body.limit as u64,
-        start: body.start as u64,
-        width: body.width as u64,
-        buckets: body.buckets as u64,
-        kind: body.kind as u64,
+impl From<SetupBody> for AskedSettings {
+    ghost from_gives = { λ body asked. asked ≡ asked_by body };
+
+    fn from(body: SetupBody) -> AskedSettings {
+        AskedSettings {
+            limit: body.limit as u64,
+            start: body.start as u64,
+            width: body.width as u64,
+            buckets: body.buckets as u64,
+            kind: body.kind as u64,
+        }
     }
 }
 
 // An event that was read.
-fn got_words(event: Event, taken: usize) -> EventWords
-    ensures { result ≡ got_words event taken }
-{
-    let n = taken as u64;
-    match event {
-        Event::Location(location) => EventWords {
-            refusal: ACCEPTED,
-            kind: 1,
-            taken: n,
-            location,
-            offset: 0,
-            length: 0,
-            settings: no_settings(),
-        },
-        Event::Span { offset, length } => EventWords {
-            refusal: ACCEPTED,
-            kind: 2,
-            taken: n,
-            location: 0,
-            offset,
-            length: length as u64,
-            settings: no_settings(),
-        },
-        Event::Restart => EventWords {
-            refusal: ACCEPTED,
-            kind: 3,
-            taken: n,
-            location: 0,
-            offset: 0,
-            length: 0,
-            settings: no_settings(),
-        },
-        Event::Setup(body) => EventWords {
-            refusal: ACCEPTED,
-            kind: 4,
-            taken: n,
-            location: 0,
-            offset: 0,
-            length: 0,
-            settings: asked_by(body),
-        },
+impl From<Got> for EventWords {
+    ghost from_gives = { λ got words. words ≡ got_words got.event got.taken };
+
+    fn from(got: Got) -> EventWords {
+        let taken = got.taken as u64;
+        match got.event {
+            Event::Location(location) => EventWords {
+                refusal: ACCEPTED,
+                kind: Kind::Location as u64,
+                taken,
+                location,
+                ..EventWords::default()
+            },
+            Event::Span { offset, length } => EventWords {
+                refusal: ACCEPTED,
+                kind: Kind::Span as u64,
+                taken,
+                offset,
+                length: length as u64,
+                ..EventWords::default()
+            },
+            Event::Restart => EventWords {
+                refusal: ACCEPTED,
+                kind: Kind::Restart as u64,
+                taken,
+                ..EventWords::default()
+            },
+            Event::Setup(body) => EventWords {
+                refusal: ACCEPTED,
+                kind: Kind::Setup as u64,
+                taken,
+                settings: body.into(),
+                ..EventWords::default()
+            },
+        }
     }
 }
 
-pub fn event_words(reading: Reading) -> EventWords
-    ensures { result ≡ event_words (reading_result reading) }
-{
-    match reading {
-        Reading::Got(event, taken) => got_words(event, taken),
-        Reading::Refused(why) => EventWords {
-            refusal: judge::number_of(why),
-            kind: 0,
-            taken: 0,
-            location: 0,
-            offset: 0,
-            length: 0,
-            settings: no_settings(),
-        },
+impl From<Result<Got, Refusal>> for EventWords {
+    ghost from_gives = { λ answer words. words ≡ event_words (result_of answer) };
+
+    fn from(answer: Result<Got, Refusal>) -> EventWords {
+        match answer {
+            Ok(got) => got.into(),
+            Err(why) => EventWords {
+                refusal: why.into(),
+                ..EventWords::default()
+            },
+        }
     }
 }
 
-pub fn written_words(answer: Written) -> WrittenWords
-    ensures { result ≡ written_words (written_result answer) }
-{
-    match answer {
-        Written::Filled(n) => WrittenWords {
-            refusal: ACCEPTED,
-            length: n as u64,
-        },
-        Written::Refused(why) => WrittenWords {
-            refusal: judge::number_of(why),
-            length: 0,
-        },
+impl From<Result<usize, Refusal>> for WrittenWords {
+    ghost from_gives = { λ answer words. words ≡ written_words (result_of answer) };
+
+    fn from(answer: Result<usize, Refusal>) -> WrittenWords {
+        match answer {
+            Ok(length) => WrittenWords {
+                refusal: ACCEPTED,
+                length: length as u64,
+            },
+            Err(why) => WrittenWords {
+                refusal: why.into(),
+                ..WrittenWords::default()
+            },
+        }
     }
 }
 
-pub fn fed_words(taken: usize, ending: Ending) -> FedWords
-    ensures { result ≡ fed_words taken (ending_result ending) }
+// The bytes taken stand beside a refusal too.
+pub fn fed_words(taken: usize, ending: Result<End, Refusal>) -> FedWords
+    ensures { result ≡ fed_words taken (result_of ending) }
 {
-    let n = taken as u64;
+    let taken = taken as u64;
     match ending {
-        Ending::Whole => FedWords {
+        Ok(End::Whole) => FedWords {
             refusal: ACCEPTED,
-            taken: n,
+            taken,
             incomplete: 0,
         },
-        Ending::Inside => FedWords {
+        Ok(End::Inside) => FedWords {
             refusal: ACCEPTED,
-            taken: n,
+            taken,
             incomplete: 1,
         },
-        Ending::Refused(why) => FedWords {
-            refusal: judge::number_of(why),
-            taken: n,
+        Err(why) => FedWords {
+            refusal: why.into(),
+            taken,
             incomplete: 0,
         },
     }
 }
 
 // An event that was fed alone, as one that was applied.
-pub fn applied_words(fed: FedWords) -> AppliedWords
-    ensures { result ≡ applied_from fed }
-{
-    AppliedWords {
-        refusal: fed.refusal,
-        taken: fed.taken,
+impl From<FedWords> for AppliedWords {
+    ghost from_gives = { λ fed words. words ≡ applied_from fed };
+
+    fn from(fed: FedWords) -> AppliedWords {
+        AppliedWords {
+            refusal: fed.refusal,
+            taken: fed.taken,
+        }
     }
 }
