@@ -106,7 +106,7 @@ pub fn record_of(words: &[u64]) -> Record
 }
 
 // The words of a record.
-fn words_of(kept: Record) -> [u64; RECORD_WORDS]
+fn words_of(kept: Record) -> [u64; 9]
     ensures { result ≡ words_of kept }
 {
     let s = kept.settings;
