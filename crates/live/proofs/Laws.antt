@@ -1,17 +1,18 @@
 -- The laws of a list of locations at the front of a table. Each loop has a record that it keeps (`Shifting`, `Keeping`), with a law for how it
 -- begins, for each turn and for its end; a lowering is put together from the laws of the others. Assumes nothing.
-use Prim.Native.Nat.{ℕ, zero, suc, ◌+◌, ◌-◌, ◌≤◌, ◌<◌, min, max}
-use mathlib.Core.Path.{◌≡◌, refl, sym, ap, ◌∙◌}
+use Prim.Native.Nat.{ℕ, suc, ◌+◌, ◌-◌, ◌≤◌, ◌<◌, min, max}
+use mathlib.Core.Path.{◌≡◌, refl, ap, ◌∙◌}
 use mathlib.Core.Bool.{Bool, true, false, cond}
-use mathlib.Core.List.{List, [], ◌∷◌, ◌++◌, append-nil, append_assoc}
+use mathlib.Core.List.{List, [], ◌∷◌, ◌++◌, append-nil}
 use mathlib.Core.Option.{some, none}
 use native.Mathlib.Nat.{not-suc-le-zero}
-use native.Mathlib.Numerals.{add-one, unary_clauses}
+use native.Mathlib.Numerals.{add-one}
 use native.Mathlib.Omega.{arith}
 use lib.Dec.{eqb, ltb}
-use lib.ListN.{length, get_or, take, drop, set, length-set, length-append, length-take, drop_of_length-le, take-append-drop, get_or-append}
-use lib.Seq.{drop-cons, get_or-take, take-suc, length-take-le, set_at}
+use lib.ListN.{length, get_or, take, drop, set, length-set, length-append, length-take, drop_of_length-le}
+use lib.Seq.{drop-cons, get_or-take, take-suc}
 use borrow.Author.Tests.{eq-eqb, ne_eqb, lt-ltb, le-ltb, ltb-true}
+use Rattle.std.specs.List.{copy_within}
 use Rattle.rules.specs.Lists.{keep, over}
 use Rattle.rules.specs.Reference.{first_from, first_place, to_front, under, largest, keep_below, lowered}
 use Rattle.rules.proofs.Tests.{cases}
@@ -39,45 +40,13 @@ module _ (x n : ℕ) (xs : List ℕ) (i : ℕ) where
   unfolding first_from
   search_end h = let l : length (take n xs) ≤ i = rw length-take h in rw (drop_of_length-le (take n xs) l)
 
--- ---- the move to the front, from the place d downward: what stood from i to d has moved one back
+-- ---- the move to the front
 
-pub record Shifting (d : ℕ) (xs now : List ℕ) (i : ℕ) : Type 0 where
-  pub reach : i ≤ d
-  pub is : now ≡ take (suc i) xs ++ (drop i (take d xs) ++ drop (suc d) xs)
-  pub same : length now ≡ length xs
-
-module _ (d : ℕ) (xs : List ℕ) (h : d < length xs) where
-  pub shift_none : Shifting d xs xs d
-  shift_none =
-      let l : length (take d xs) ≤ d = rw length-take (omega arith) in
-      record { reach = omega arith; is = rw (drop_of_length-le (take d xs) l) (sym (take-append-drop (suc d) xs)); same = refl }
-
-  -- the place j + 1 takes what stands at j
-  one_back : (now : List ℕ) (j : ℕ) → Shifting d xs now (suc j) → Shifting d xs (set now (suc j) (get_or now j 0)) j
-  one_back now j s =
-      let rest = drop (suc j) (take d xs) ++ drop (suc d) xs in
-      let e : get_or now j 0 ≡ get_or xs j 0 =
-      rw (s.is, get_or-append (take (suc (suc j)) xs) rest 0 j (rw length-take (omega arith))) (get_or-take (suc (suc j)) xs j 0 (omega arith)) in
-      let f : drop j (take d xs) ≡ get_or xs j 0 ∷ drop (suc j) (take d xs) =
-      drop-cons (take d xs) j 0 (rw length-take (omega arith)) ∙ ap (λ (y : ℕ). y ∷ drop (suc j) (take d xs)) (get_or-take d xs j 0 (omega arith)) in
-      record {
-        reach = omega arith;
-        is = rw (e, f, s.is, take-suc xs (suc j) 0 (omega arith), append_assoc)
-            (set_at (take (suc j) xs) (get_or xs (suc j) 0) rest (get_or xs j 0) (suc j) (length-take-le (suc j) xs (omega arith)));
-        same = length-set now (suc j) (get_or now j 0) ∙ s.same;
-      }
-
-  pub shift_more : (now : List ℕ) (i : ℕ) → 0 < i → Shifting d xs now i → Shifting d xs (set now i (get_or now (i - 1) 0)) (i - 1)
-  shift_more now zero k s = absurd (not-suc-le-zero k)
-  shift_more now (suc j) k s = simp unary_clauses (one_back now j s)
-
-  pub shift_end : (x : ℕ) (now : List ℕ) → Shifting d xs now 0 → set now 0 x ≡ moved_to_front d x xs
-  unfolding moved_to_front
-  shift_end x now s = rw (lt-ltb _ _ h, s.is) (first xs (omega arith) (take d xs ++ drop (suc d) xs))
-    where
-      first : (ys : List ℕ) → 0 < length ys → (rest : List ℕ) → set (take 1 ys ++ rest) 0 x ≡ x ∷ rest
-      first [] k rest = absurd (not-suc-le-zero k)
-      first (y ∷ ys) k rest = refl
+-- the first d copied one place on, and x in front
+pub moved_some : (d x : ℕ) (xs : List ℕ) → d < length xs → set (copy_within xs 0 d 1) 0 x ≡ moved_to_front d x xs
+unfolding moved_to_front
+moved_some d x [] h = absurd (not-suc-le-zero h)
+moved_some d x (y ∷ xs) h = let e : d - 0 ≡ d = omega arith in let f : 1 + d ≡ suc d = omega arith in rw (lt-ltb _ _ h, e, f) refl
 
 pub moved_none : (d x : ℕ) (xs : List ℕ) → length xs ≤ d → xs ≡ moved_to_front d x xs
 unfolding moved_to_front

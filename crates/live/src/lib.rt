@@ -1,7 +1,7 @@
 // A list of locations at the front of a lent table: its first n entries, or all of them if the table is shorter.
 #![tactic(auto)]
 
-ghost use Rattle.std.specs.Prelude.{◌≡◌, min, max, take};
+ghost use Rattle.std.specs.Prelude.{◌≡◌, take};
 ghost use Rattle.rules.specs.Settings.{hash_of};
 ghost use Rattle.rules.specs.Reference.{first_place, largest};
 ghost use Rattle.live.specs.Live.{place_found, moved_to_front, remaining, remaining_of, lowering, lowering_of};
@@ -24,30 +24,13 @@ pub struct Lowered {
     pub live: usize,
 }
 
-fn lesser(a: usize, b: usize) -> usize
-    ensures { result ≡ min a b }
-{
-    if a < b { a } else { b }
-}
-
-fn smaller(a: u64, b: u64) -> u64
-    ensures { result ≡ min a b }
-{
-    if a < b { a } else { b }
-}
-
-fn larger(a: u64, b: u64) -> u64
-    ensures { result ≡ max a b }
-{
-    if a < b { b } else { a }
-}
-
 // Finds the place, counted from 0, where the location first occurs.
 pub fn first_place(locations: &[u64], n: usize, location: u64) -> Found
     ensures { place_found result ≡ first_place location (take n locations.now) }
 {
-    let end = lesser(n, locations.len());
+    let end = n.min(locations.len());
     let mut place: usize = 0;
+    // The documents name this form: a loop that yields the place, or absence, by `break`.
     loop {
         if end <= place {
             break Found::Nothing;
@@ -64,27 +47,19 @@ pub fn first_place(locations: &[u64], n: usize, location: u64) -> Found
 pub fn to_front(locations: &mut [u64], place: usize, location: u64)
     ensures { locations.new ≡ moved_to_front place location locations.old }
 {
-    if locations.len() <= place {
-        return;
+    if place < locations.len() {
+        locations.copy_within(0..place, 1);
+        locations[0] = location;
     }
-    let mut i = place;
-    while 0 < i {
-        locations[i] = locations[i - 1];
-        i -= 1;
-    }
-    locations[0] = location;
 }
 
 // The largest hash in the list, or 0 if the list is empty.
 pub fn largest_hash(locations: &[u64], n: usize, hashing: Hashing) -> u64
     ensures { result ≡ largest (hash_of hashing) (take n locations.now) }
 {
-    let end = lesser(n, locations.len());
     let mut most: u64 = 0;
-    let mut i: usize = 0;
-    while i < end {
-        most = larger(most, hash::hash_of(hashing, locations[i]));
-        i += 1;
+    for location in &locations[..n.min(locations.len())] {
+        most = most.max(hash::hash_of(hashing, *location));
     }
     most
 }
@@ -93,12 +68,10 @@ pub fn largest_hash(locations: &[u64], n: usize, hashing: Hashing) -> u64
 pub fn keep_below(locations: &mut [u64], n: usize, hashing: Hashing, threshold: u64) -> usize
     ensures { remaining result locations.new ≡ remaining_of (hash_of hashing) threshold n locations.old }
 {
-    let end = lesser(n, locations.len());
+    let end = n.min(locations.len());
     let mut number: usize = 0;
-    let mut i: usize = 0;
-    while i < end {
+    for i in 0..end {
         let location = locations[i];
-        i += 1;
         if hash::hash_of(hashing, location) < threshold {
             locations[number] = location;
             number += 1;
@@ -121,7 +94,7 @@ pub fn lower(
 {
     let own = hash::hash_of(hashing, location);
     let others = largest_hash(locations, n, hashing);
-    let fallen = smaller(threshold, larger(own, others));
+    let fallen = threshold.min(own.max(others));
     let number = keep_below(locations, n, hashing, fallen);
     if own < fallen {
         to_front(locations, number, location);

@@ -1,16 +1,8 @@
-use mathlib.Core.Path.{◌≡◌}
-use native.Mathlib.Omega.{arith}
-use Rattle.live.proofs.Laws.{shift_more, shift_end, moved_none}
+use Rattle.live.proofs.Laws.{moved_some, moved_none}
 use Rattle.live.proofs.to_front.Goals as goal
 
-pub returns-then-locations-place : goal.returns-then-locations-place
-returns-then-locations-place c = moved_none _ _ _ c.if-locations-place.true
+pub returns-then-place-locations : goal.returns-then-place-locations
+returns-then-place-locations c = rw c.copy_within.ensures.after (moved_some _ _ _ c.if-place-locations.true)
 
-pub loop-i-preserved : goal.loop-i-preserved
-loop-i-preserved c =
-    shift_more _ _ (omega arith) _ c.loop-i.i (omega arith) c.loop-i.invariant
-
-pub returns : goal.returns
-returns c =
-    let e : c.loop-i.i ≡ 0 = omega arith in
-    shift_end _ _ (omega arith) _ _ (rw e at c.loop-i.invariant)
+pub returns-else-place-locations : goal.returns-else-place-locations
+returns-else-place-locations c = moved_none _ _ _ c.if-place-locations.false
