@@ -14,9 +14,9 @@ pub fn times(x: u64, m: u64) -> u64
     let x_high = x / 0x1_0000_0000;
     let m_low = m % 0x1_0000_0000;
     let m_high = m / 0x1_0000_0000;
-    let middle = std::num::wrapping_add_u64(x_high * m_low, x_low * m_high);
+    let middle = (x_high * m_low).wrapping_add(x_low * m_high);
     let upper = middle % 0x1_0000_0000 * 0x1_0000_0000;
-    std::num::wrapping_add_u64(upper, x_low * m_low)
+    upper.wrapping_add(x_low * m_low)
 }
 
 // x xor (x shifted right by 33).

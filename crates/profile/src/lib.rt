@@ -4,22 +4,12 @@
 ghost use Rattle.std.specs.Prelude.{◌≡◌, ℕ, max};
 ghost use Rattle.rules.specs.Reference.{widths};
 
-// A width of 0, which no settings in range have, counts as 1.
-fn some_width(width: u64) -> u64
-    ensures { result ≡ max 1 width }
-{
-    if width < 1 { 1 } else { width }
-}
-
-// The bucket of a scaled distance. Past the last bucket this is far, the bucket after it.
+// The bucket of a scaled distance. Past the last bucket this is far, the bucket after it. A width of 0, which no settings in range have,
+// counts as 1.
 pub fn bucket_of(width: u64, buckets: u64, distance: u64) -> u64
     ensures { result ≡ (widths (max 1 width) buckets).bucket_of distance }
 {
-    let bucket = distance / some_width(width);
-    if buckets <= bucket {
-        return buckets;
-    }
-    bucket
+    (distance / width.max(1)).min(buckets)
 }
 
 // The size of a point, in blocks. The parameters have 32 bits, so the product fits in 64.
