@@ -4,7 +4,7 @@ use Prim.Native.Nat.{ℕ, suc, ◌+◌, ◌-◌, ◌≤◌, ◌<◌, min, max}
 use mathlib.Core.Path.{◌≡◌, refl, ap, ◌∙◌}
 use mathlib.Core.Bool.{Bool, true, false, cond}
 use mathlib.Core.List.{List, [], ◌∷◌, ◌++◌, append-nil}
-use mathlib.Core.Option.{some, none}
+use Rattle.std.specs.Prelude.{Some, None}
 use native.Mathlib.Nat.{not-suc-le-zero}
 use native.Mathlib.Numerals.{add-one}
 use native.Mathlib.Omega.{arith}
@@ -25,18 +25,18 @@ use Rattle.live.specs.Live.{moved_to_front, remaining, remaining_of, lowering, l
 
 module _ (x n : ℕ) (xs : List ℕ) (i : ℕ) where
   opened : i < min n (length xs)
-      → first_from i x (drop i (take n xs)) ≡ cond (eqb (get_or xs i 0) x) (some i) (first_from (suc i) x (drop (suc i) (take n xs)))
+      → first_from i x (drop i (take n xs)) ≡ cond (eqb (get_or xs i 0) x) (Some i) (first_from (suc i) x (drop (suc i) (take n xs)))
   unfolding first_from
   opened h = rw (drop-cons (take n xs) i 0 (rw length-take h), get_or-take n xs i 0 (omega arith))
 
-  pub search_hit : i < min n (length xs) → get_or xs i 0 ≡ x → first_from i x (drop i (take n xs)) ≡ some i
+  pub search_hit : i < min n (length xs) → get_or xs i 0 ≡ x → first_from i x (drop i (take n xs)) ≡ Some i
   search_hit h e = rw (opened h, eq-eqb _ _ e)
 
   pub search_miss : i < min n (length xs) → (get_or xs i 0 ≡ x → ⊥)
       → first_from i x (drop i (take n xs)) ≡ first_from (i + 1) x (drop (i + 1) (take n xs))
   search_miss h e = rw (opened h, ne_eqb _ _ e, add-one)
 
-  pub search_end : min n (length xs) ≤ i → first_from i x (drop i (take n xs)) ≡ none
+  pub search_end : min n (length xs) ≤ i → first_from i x (drop i (take n xs)) ≡ None
   unfolding first_from
   search_end h = let l : length (take n xs) ≤ i = rw length-take h in rw (drop_of_length-le (take n xs) l)
 
@@ -179,7 +179,7 @@ module _ (hash : ℕ → ℕ) (t n x : ℕ) (xs mid : List ℕ) (own fallen numb
 -- ---- what a caller needs besides
 
 -- a place that was found is one of the first n
-pub found_below : (x n : ℕ) (xs : List ℕ) (d : ℕ) → first_place x (take n xs) ≡ some d → (d < n) × (d < length xs)
+pub found_below : (x n : ℕ) (xs : List ℕ) (d : ℕ) → first_place x (take n xs) ≡ Some d → (d < n) × (d < length xs)
 found_below x n xs d e = let h : d < length (take n xs) = found_lt x (take n xs) d e in
     (omega (arith, length-take n xs), omega (arith, length-take n xs))
 

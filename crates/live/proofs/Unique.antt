@@ -1,30 +1,18 @@
 -- Any two results that a promise of this crate allows coincide: what is answered, and every lent table at exit. Assumes nothing.
 use Prim.Native.Nat.{ℕ}
-use mathlib.Core.Path.{◌≡◌, refl, sym, ap, ◌∙◌}
+use mathlib.Core.Path.{◌≡◌, sym, ap, ◌∙◌}
 use mathlib.Core.List.{List}
-use mathlib.Core.Option.{Option, some, none}
+use Rattle.std.specs.Prelude.{Option}
 use lib.ListN.{take}
 use Rattle.rules.specs.declared.Hashing.{Hashing}
 use Rattle.rules.specs.Settings.{hash_of}
 use Rattle.rules.specs.Reference.{first_place, largest}
-use Rattle.rules.proofs.Answers.{undone}
-use Rattle.live.specs.declared.Found.{Found}
-use Rattle.live.specs.declared.Found.TheVariants as found
 use Rattle.live.specs.declared.Lowered.{Lowered}
-use Rattle.live.specs.Live.{place_found, moved_to_front, remaining, remaining_of, lowering, lowering_of}
-
--- the answer of a search is decided by the place that it says
-searched : Option ℕ → Found
-searched (some d) = found.At d
-searched none = found.Nothing
-
-found_injective : (a b : Found) → place_found a ≡ place_found b → a ≡ b
-unfolding searched
-found_injective = undone place_found searched (elim [ found.At d ↦ refl | found.Nothing ↦ refl ])
+use Rattle.live.specs.Live.{moved_to_front, remaining, remaining_of, lowering, lowering_of}
 
 module _ (xs : List ℕ) (n : ℕ) where
-  pub first_place_unique : (x : ℕ) (r s : Found) → place_found r ≡ first_place x (take n xs) → place_found s ≡ first_place x (take n xs) → r ≡ s
-  first_place_unique x r s e f = found_injective r s (e ∙ sym f)
+  pub first_place_unique : (x : ℕ) (r s : Option ℕ) → r ≡ first_place x (take n xs) → s ≡ first_place x (take n xs) → r ≡ s
+  first_place_unique x r s e f = e ∙ sym f
 
   pub to_front_unique : (x : ℕ) (ys zs : List ℕ) → ys ≡ moved_to_front n x xs → zs ≡ moved_to_front n x xs → ys ≡ zs
   to_front_unique x ys zs e f = e ∙ sym f

@@ -1,16 +1,8 @@
 -- What is done to a list of locations at the front of a table. Assumes nothing.
 use Rattle.std.specs.Prelude.{ℕ, cond, List, ◌∷◌, ltb, length, take}
-use Rattle.std.proofs.Math.Option.{Option, some, none}
 use Rattle.rules.specs.Lists.{over}
 use Rattle.rules.specs.Reference.{to_front, keep_below, lowered}
-use Rattle.live.specs.declared.Found.{Found}
-use Rattle.live.specs.declared.Found.TheVariants as found
 use Rattle.live.specs.declared.Lowered.{Lowered}
-
--- the place that a search found
-abbrev pub place_found : Found → Option ℕ
-place_found (found.At d) = some d
-place_found found.Nothing = none
 
 -- x moved from place d to the front; nothing changes if the place is past the end
 unfoldable pub moved_to_front : (d x : ℕ) → List ℕ → List ℕ

@@ -4,18 +4,9 @@
 ghost use Rattle.std.specs.Prelude.{◌≡◌, take};
 ghost use Rattle.rules.specs.Settings.{hash_of};
 ghost use Rattle.rules.specs.Reference.{first_place, largest};
-ghost use Rattle.live.specs.Live.{place_found, moved_to_front, remaining, remaining_of, lowering, lowering_of};
+ghost use Rattle.live.specs.Live.{moved_to_front, remaining, remaining_of, lowering, lowering_of};
 
 use rules::Hashing;
-
-// The result of a search.
-#[derive(Clone, Copy)]
-pub enum Found {
-    // The place, counted from 0.
-    At(usize),
-    // The location is not in the list.
-    Nothing,
-}
 
 // The threshold and the number of locations after a lowering.
 #[derive(Clone, Copy)]
@@ -24,19 +15,19 @@ pub struct Lowered {
     pub live: usize,
 }
 
-// Finds the place, counted from 0, where the location first occurs.
-pub fn first_place(locations: &[u64], n: usize, location: u64) -> Found
-    ensures { place_found result ≡ first_place location (take n locations.now) }
+// Finds the place, counted from 0, where the location first occurs: `None` if it is not in the list.
+pub fn first_place(locations: &[u64], n: usize, location: u64) -> Option<usize>
+    ensures { result ≡ first_place location (take n locations.now) }
 {
     let end = n.min(locations.len());
     let mut place: usize = 0;
     // The documents name this form: a loop that yields the place, or absence, by `break`.
     loop {
         if end <= place {
-            break Found::Nothing;
+            break None;
         }
         if locations[place] == location {
-            break Found::At(place);
+            break Some(place);
         }
         place += 1;
     }
