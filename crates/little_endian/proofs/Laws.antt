@@ -1,18 +1,21 @@
--- Numbers got from bytes and put there. A wide number is two halves, one behind the other; where all its bytes are there the definitions
--- for any place are those of the rules. Assumes nothing.
-use Prim.Native.Nat.{ℕ, ◌+◌, ◌-◌, ◌/◌, ◌%◌, ◌^◌, ◌≤◌, ◌<◌}
-use mathlib.Core.Path.{◌≡◌, sym, ap, ◌∙◌}
+-- Numbers got from bytes and put there. Where all its bytes are there the definitions for any place are those of the rules; the library's
+-- eight bytes are the rules' bytes, with zeros behind them where a number has fewer. Assumes nothing.
+use Prim.Native.Nat.{ℕ, zero, suc, ◌+◌, ◌-◌, ◌/◌, ◌%◌, ◌^◌, ◌≤◌, ◌<◌}
+use mathlib.Core.Path.{◌≡◌, refl, sym, ap, ◌∙◌}
 use mathlib.Core.Bool.{false}
-use mathlib.Core.List.{List, ◌++◌}
-use native.Mathlib.Nat.{zero-add}
+use mathlib.Core.List.{List, [], ◌∷◌, ◌++◌}
+use native.Mathlib.Nat.{zero-add, add-zero, suc-add, add-suc, pow-suc, div-div-eq-div-mul}
 use native.Mathlib.Omega.{arith}
 use lib.Dec.{leb}
-use lib.ListN.{length}
-use lib.Seq.{sets, length-sets}
+use lib.ListN.{length, get_or, take, drop, replicate}
+use lib.Seq.{sets, length-sets, get_or-drop, sets-eq}
 use borrow.Author.Tests.{le-leb, lt-leb, leb-true, leb-false}
-use Rattle.rules.specs.Events.{bytes_of, number_at}
+use borrow.Rule.Slice.PartMut.{put_mid}
+use Rattle.std.proofs.lemmas.List.{length-take-le, append_assoc, length-drop, drop-drop, drop-replicate}
+use Rattle.std.specs.Int.{w64, byte_at, bytes_low_first, to_le_bytes, from_le_bytes}
+use Rattle.rules.specs.Events.{bytes_of, number_at, Bytes}
 use Rattle.rules.proofs.Tests.{cases}
-use Rattle.rules.proofs.LittleEndian.{sets_append, puts_two}
+use Rattle.rules.proofs.LittleEndian.{sets_append, number_below}
 use Rattle.little_endian.specs.InBytes.{got_from, put_into}
 
 -- ---- whether bytes are there
@@ -36,6 +39,12 @@ module _ (n at : ℕ) (s : List ℕ) where
   unfolding got_from
   got_none e = rw e
 
+-- what is got fits its bytes
+pub got_small : (n at : ℕ) (s : List ℕ) → Bytes s → got_from n at s < 256 ^ n
+got_small n at s b = cases (leb (at + n) (length s))
+    (λ e. rw (got_there n at s (leb-true _ _ e)) (number_below s b n at))
+    (λ e. rw (got_none n at s e) (omega (arith, number_below s b n at)))
+
 -- ---- put
 
 module _ (n at x : ℕ) (s : List ℕ) where
@@ -54,12 +63,62 @@ put_behind l bytes n x is h put =
     put ∙ ap (put_into n (length bytes) x) is ∙ put_there n (length bytes) x (sets l 0 bytes) (omega (arith, length-sets l 0 bytes))
     ∙ ap (λ (i : ℕ). sets (sets l 0 bytes) i (bytes_of n x)) (sym (zero-add (length bytes))) ∙ sets_append l bytes (bytes_of n x) 0
 
--- bytes put into what was left before
-then : (at : ℕ) (bytes : List ℕ) {left before after : List ℕ} → before ≡ left → after ≡ sets before at bytes → after ≡ sets left at bytes
-then at bytes is put = put ∙ ap (λ (z : List ℕ). sets z at bytes) is
+-- ---- the eight bytes that a number is got from: its own, and zeros
 
--- the low m bytes of a number, and the n others behind them
-pub halves : (m n at x : ℕ) (l : List ℕ) {before after : List ℕ}
-    → before ≡ sets l at (bytes_of m (x % 256 ^ m)) → after ≡ sets before (at + m) (bytes_of n (x / 256 ^ m))
-    → after ≡ sets l at (bytes_of (m + n) x)
-halves m n at x l low high = then (at + m) (bytes_of n (x / 256 ^ m)) low high ∙ puts_two m n at x l
+shifted : (n at y : ℕ) (l : List ℕ) → number_at n (suc at) (y ∷ l) ≡ number_at n at l
+shifted zero at y l = refl
+shifted (suc n) at y l = rw (shifted n (suc at) y l)
+
+dropped : (n k at : ℕ) (s : List ℕ) → number_at n at (drop k s) ≡ number_at n (k + at) s
+dropped zero k at s = refl
+dropped (suc n) k at s = rw (get_or-drop k s at 0, dropped n k (suc at) s, add-suc k at)
+
+no_byte : (m i : ℕ) → ◌≡◌ {A = ℕ} (get_or (replicate m 0) i 0) 0
+no_byte zero i = refl
+no_byte (suc m) zero = refl
+no_byte (suc m) (suc i) = no_byte m i
+
+zeros : (n at m : ℕ) → number_at n at (replicate m 0) ≡ 0
+zeros zero at m = refl
+zeros (suc n) at m = rw (no_byte m at, zeros n (suc at) m)
+
+padded : (n k : ℕ) (s : List ℕ) → n ≤ length s → number_at (n + k) 0 (take n s ++ replicate k 0) ≡ number_at n 0 s
+padded zero k s h = zeros (0 + k) 0 k
+padded (suc n) k [] h = absurd (omega arith)
+padded (suc n) k (y ∷ s) h =
+    rw (suc-add n k, shifted (n + k) 0 y (take n s ++ replicate k 0), padded n k s (omega arith), shifted n 0 y s)
+
+all_bytes : (l : List ℕ) → from_le_bytes w64 l ≡ number_at 8 0 l
+all_bytes l = omega arith
+
+pub got_low : (n at : ℕ) (s low : List ℕ) {x : ℕ} → n ≤ 8 → at + n ≤ length s → low ≡ take (at + n - at) (drop at s)
+    → x ≡ from_le_bytes w64 (put_mid 0 n (replicate 8 0) low) → x ≡ number_at n at s
+got_low n at s low {x} few there is from =
+    let own : low ≡ take n (drop at s) = is ∙ ap (λ (k : ℕ). take k (drop at s)) (let e : at + n - at ≡ n = omega arith in e) in
+    let fill : 8 ≡ n + (8 - n) = omega arith in
+    let all : put_mid 0 n (replicate 8 0) low ≡ take n (drop at s) ++ replicate (8 - n) 0 = rw (own, drop-replicate {X = ℕ} n 8 0) in
+    from ∙ all_bytes (put_mid 0 n (replicate 8 0) low) ∙ ap (number_at 8 0) all
+    ∙ ap (λ (k : ℕ). number_at k 0 (take n (drop at s) ++ replicate (8 - n) 0)) fill
+    ∙ padded n (8 - n) (drop at s) (omega (arith, length-drop at s)) ∙ dropped n at 0 s ∙ rw add-zero
+
+-- ---- the lowest bytes of a number
+
+nth : (i x : ℕ) → byte_at i x ≡ x / 256 ^ i % 256
+nth zero x = omega arith
+nth (suc i) x = refl
+
+low_bytes : (i k n x : ℕ) → n ≤ k → take n (bytes_low_first i k x) ≡ bytes_of n (x / 256 ^ i)
+low_bytes i k zero x h = refl
+low_bytes i zero (suc n) x h = absurd (omega arith)
+low_bytes i (suc k) (suc n) x h =
+    let first : byte_at i x ≡ x / 256 ^ i % 256 = nth i x in
+    let rest : x / 256 ^ suc i ≡ x / 256 ^ i / 256 = rw (pow-suc 256 i, div-div-eq-div-mul) in
+    rw (first, low_bytes (suc i) k n x (omega arith), rest)
+
+pub put_low : (n at x : ℕ) (s low : List ℕ) → n ≤ 8 → at + n ≤ length s → low ≡ take n (to_le_bytes w64 x)
+    → put_mid at (at + n - at) s low ≡ sets s at (bytes_of n x)
+put_low n at x s low few there is =
+    let own : low ≡ bytes_of n x = is ∙ low_bytes 0 8 n x few ∙ ap (bytes_of n) (let e : x / 256 ^ 0 ≡ x = omega arith in e) in
+    let after : drop (at + n - at) (drop at s) ≡ drop (at + n) s = drop-drop _ at s ∙ ap (λ (k : ℕ). drop k s) (let e : at + (at + n - at) ≡ at + n = omega arith in e) in
+    let size = sym (ap length own) ∙ ap length is ∙ length-take-le n (to_le_bytes w64 x) few in
+    rw (own, after) (sym (sets-eq (bytes_of n x) s at (omega (arith, size)) ∙ rw (size, append_assoc)))
