@@ -88,5 +88,9 @@ pub fn overruns(offset: u64, length: u32) -> bool
 pub fn is_stale(believed: Shape, s: Settings) -> bool
     ensures { result ≡ stale believed s }
 {
-    (believed.buckets != s.buckets) | (believed.width != s.width)
+    let own = Shape {
+        buckets: s.buckets,
+        width: s.width,
+    };
+    believed != own
 }

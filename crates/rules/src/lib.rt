@@ -79,7 +79,7 @@ pub struct Record {
 }
 
 // The shape that a caller believes the curve to have.
-#[derive(Clone, Copy)]
+#[derive(Clone, Copy, PartialEq, Eq)]
 pub struct Shape {
     pub buckets: u64,
     pub width: u64,
