@@ -4,23 +4,23 @@
 
 ghost use Rattle.std.specs.Prelude.{◌≡◌, ◌≤◌};
 ghost use Rattle.rules.specs.Settings.{most_buckets, most_width};
-ghost use Rattle.rules.specs.Answers.{point_result, plot_result};
+ghost use Rattle.rules.specs.Answers.{result_of};
 ghost use Rattle.rules.specs.Layout.{buckets_of};
 ghost use Rattle.rules.specs.Calls.{point_of, plot_of};
 ghost use Rattle.points.specs.Points.{from_sums};
 
-use buckets::{Reported, Sums};
-use rules::{PlotPoint, Plotted, Point, Pointed, Record, Refusal, Settings, Shape};
+use buckets::Sums;
+use rules::{PlotPoint, Point, Record, Refusal, Settings, Shape};
 
 // The point with this number, from the sums of a report.
-fn point_of(s: Settings, number: u64, sums: Sums) -> Pointed
+fn point_of(s: Settings, number: u64, sums: Sums) -> Result<Point, Refusal>
     requires { (number ≤ most_buckets) × (s.width ≤ most_width) × (sums.hits ≤ sums.total) }
-    ensures { point_result result ≡ from_sums s number sums }
+    ensures { result_of result ≡ from_sums s number sums }
 {
     if sums.total == 0 {
-        return Pointed::Refused(Refusal::Empty);
+        return Err(Refusal::Empty);
     }
-    Pointed::At(Point {
+    Ok(Point {
         size: profile::size_of(s.width as u32, number as u32),
         hits: sums.hits,
         misses: sums.total - sums.hits,
@@ -35,35 +35,33 @@ pub fn point(
     number: u64,
     counts: &[u64],
     thresholds: &[u32],
-) -> Pointed
-    ensures { point_result result ≡ point_of kept believed number (buckets_of counts.now thresholds.now) }
+) -> Result<Point, Refusal>
+    ensures { result_of result ≡ point_of kept believed number (buckets_of counts.now thresholds.now) }
 {
     if judge::torn(kept) {
-        return Pointed::Refused(Refusal::Torn);
+        return Err(Refusal::Torn);
     }
     let s = kept.settings;
     if judge::buckets_too_short(s, counts, thresholds) {
-        return Pointed::Refused(Refusal::Tables);
+        return Err(Refusal::Tables);
     }
     if judge::is_stale(believed, s) {
-        return Pointed::Refused(Refusal::Stale);
+        return Err(Refusal::Stale);
     }
     if s.buckets < number {
-        return Pointed::Refused(Refusal::Point);
+        return Err(Refusal::Point);
     }
     let needed = (s.buckets + 2) as usize;
     let references = kept.numbers.references as u32;
-    match buckets::report(
+    let sums = buckets::report(
         counts,
         thresholds,
         needed,
         number as usize,
         kept.threshold,
         references,
-    ) {
-        Reported::Sums(sums) => point_of(s, number, sums),
-        Reported::Refused(why) => Pointed::Refused(why),
-    }
+    )?;
+    point_of(s, number, sums)
 }
 
 // The same point as a pair of doubles: the size, and misses divided by total, rounded once.
@@ -73,14 +71,12 @@ pub fn plot_point(
     number: u64,
     counts: &[u64],
     thresholds: &[u32],
-) -> Plotted
-    ensures { plot_result result ≡ plot_of kept believed number (buckets_of counts.now thresholds.now) }
+) -> Result<PlotPoint, Refusal>
+    ensures { result_of result ≡ plot_of kept believed number (buckets_of counts.now thresholds.now) }
 {
-    match point(kept, believed, number, counts, thresholds) {
-        Pointed::At(p) => Plotted::At(PlotPoint {
-            size: p.size as f64,
-            ratio: (p.misses as f64) / (p.total as f64),
-        }),
-        Pointed::Refused(why) => Plotted::Refused(why),
-    }
+    let p = point(kept, believed, number, counts, thresholds)?;
+    Ok(PlotPoint {
+        size: p.size as f64,
+        ratio: (p.misses as f64) / (p.total as f64),
+    })
 }

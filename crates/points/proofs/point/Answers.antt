@@ -3,6 +3,7 @@
 use native.Mathlib.Omega.{arith}
 use mathlib.Core.Path.{sym, ◌∙◌}
 use borrow.Author.Tests.{lt-ltb}
+use Rattle.std.proofs.lemmas.Result.{err_from_is_err_and}
 use Rattle.rules.proofs.Bounds.{whole}
 use Rattle.rules.proofs.Calls.{point_torn, point_short, point_stale, point_number}
 use Rattle.points.proofs.CurvePoints.{from_refused, from_sums_lem, sums_ordered}
@@ -35,16 +36,18 @@ point_of-requires c =
       omega (arith, in_bounds.range.buckets_high),
       in_bounds.range.width_high,
       sums_ordered _ _ _ _ not_torn (sym c.buckets_too_short.ensures ∙ c.if-buckets_too_short.false)
-          (sym c.is_stale.ensures ∙ c.if-is_stale.false) c.if-s-number.false _ c.in-Sums.ensures,
+          (sym c.is_stale.ensures ∙ c.if-is_stale.false) c.if-s-number.false _ c.in_ok-sums.ensures,
     )
 
-pub returns-in-Sums : goal.returns-in-Sums
-returns-in-Sums c =
+pub returns-in_err-sums : goal.returns-in_err-sums
+returns-in_err-sums c =
+    let passed = err_from_is_err_and c.from_residual.result c.from_residual.ensures.1 in
+    rw (passed.1, passed.2)
+    (from_refused _ _ _ _ (sym c.torn.ensures ∙ c.if-torn.false) (sym c.buckets_too_short.ensures ∙ c.if-buckets_too_short.false)
+    (sym c.is_stale.ensures ∙ c.if-is_stale.false) c.if-s-number.false c.in_err-sums.ensures)
+
+pub returns : goal.returns
+returns c =
     c.point_of.ensures
     ∙ from_sums_lem _ _ _ _ (sym c.torn.ensures ∙ c.if-torn.false) (sym c.buckets_too_short.ensures ∙ c.if-buckets_too_short.false)
-    (sym c.is_stale.ensures ∙ c.if-is_stale.false) c.if-s-number.false _ c.in-Sums.ensures
-
-pub returns-in-Refused : goal.returns-in-Refused
-returns-in-Refused c =
-    from_refused _ _ _ _ (sym c.torn.ensures ∙ c.if-torn.false) (sym c.buckets_too_short.ensures ∙ c.if-buckets_too_short.false)
-    (sym c.is_stale.ensures ∙ c.if-is_stale.false) c.if-s-number.false c.in-Refused.ensures
+    (sym c.is_stale.ensures ∙ c.if-is_stale.false) c.if-s-number.false _ c.in_ok-sums.ensures
