@@ -1,9 +1,9 @@
 -- One reference in the tables: what each branch of the code leaves is what the rules say. Assumes nothing.
 use Prim.Native.Nat.{ℕ, suc, ◌+◌, ◌≤◌, ◌<◌}
 use mathlib.Core.Path.{◌≡◌, refl, sym, ap, ◌∙◌}
-use mathlib.Core.Bool.{Bool, true, false, cond}
+use mathlib.Core.Bool.{true, false, cond}
 use mathlib.Core.List.{List, ◌∷◌}
-use mathlib.Core.Option.{Option, some, none}
+use Rattle.std.specs.Prelude.{Option, Some, None}
 use native.Mathlib.Omega.{arith}
 use lib.Dec.{ltb}
 use lib.ListN.{length, take}
@@ -12,13 +12,17 @@ use borrow.Author.Tests.{lt-ltb, le-ltb, eqb-false, ltb-true, ltb-false}
 use Rattle.rules.specs.declared.Record.{Record}
 use Rattle.rules.specs.Lists.{over}
 use Rattle.rules.specs.Settings.{Histogram, needed, most_references}
-use Rattle.rules.specs.Reference.{first_place, to_front, under, record_in, bucket_for, within_limit, sampled_step, Reply, again, first, skipped}
+use Rattle.rules.specs.Reference.{first_place, to_front, under, record_in, bucket_for, within_limit, sampled_step}
+use Rattle.rules.specs.declared.Reply.{Reply}
+use Rattle.rules.specs.declared.Reply.TheVariants.{Skipped, First, Again}
 use Rattle.rules.specs.Answers.{refused, gives}
 use Rattle.rules.specs.Order.{Outcome, outcome}
 use Rattle.rules.specs.Layout.{Tracker, buckets_of, tables_of, tracker, live_of, sample_of, hash_for, profile_of, stored}
 use Rattle.rules.specs.Conditions.{too_short, torn_record, torn_at, torn_for, full}
 use Rattle.rules.specs.Calls.{refer_of}
-use Rattle.rules.proofs.Tests.{cases, clash}
+use Rattle.rules.proofs.Tests.{cases}
+use Rattle.rules.proofs.Answers.{refused_same}
+use Rattle.rules.proofs.Order.{not_both}
 use Rattle.rules.proofs.Tables.{over_same}
 use Rattle.rules.proofs.Places.{front_length}
 use Rattle.rules.proofs.Bounds.{Whole, whole, AllLong, all_long}
@@ -26,7 +30,7 @@ use Rattle.rules.proofs.Steps.{step_skipped, step_sampled}
 use Rattle.rules.proofs.Clean.{bucket_needed}
 use Rattle.rules.proofs.FullRate.{profile_cut}
 use Rattle.rules.proofs.Calls.{Accepted, refer_bucket, refer_accept}
-use Rattle.buckets.specs.Buckets.{recorded, recorded_of}
+use Rattle.buckets.specs.Buckets.{recorded_of}
 use Rattle.buckets.proofs.Laws.{recorded_needed}
 use Rattle.live.specs.declared.Lowered.{Lowered}
 use Rattle.live.specs.Live.{Lowering, moved_to_front, lowering, lowering_of}
@@ -69,44 +73,42 @@ module _ (x : ℕ) (kept : Record) (ls cs ts : List ℕ) (w : Samples x (tracker
     torn_same = rw (w.below, found, ← is)
 
     recording : recorded_of kept.numbers.references kept.threshold j (buckets_of cs ts)
-        ≡ cond (torn_for x s)
-        (record { done = false; histogram = buckets_of cs ts })
-        (record { done = true; histogram = record_in kept.threshold j (buckets_of cs ts) })
+        ≡ cond (torn_for x s) (outcome (refused 3) (buckets_of cs ts)) (outcome (gives tt) (record_in kept.threshold j (buckets_of cs ts)))
     recording = rw torn_same
         (recorded_needed kept.numbers.references kept.threshold kept.settings.buckets (buckets_of cs ts)
         long.buckets.counts_long long.buckets.thresholds_long j in_needed)
 
     refuses : torn_for x s ≡ true
-        → recorded_of kept.numbers.references kept.threshold j (buckets_of cs ts) ≡ record { done = false; histogram = buckets_of cs ts }
+        → recorded_of kept.numbers.references kept.threshold j (buckets_of cs ts) ≡ outcome (refused 3) (buckets_of cs ts)
     refuses t = recording ∙ rw t
 
     records : torn_for x s ≡ false
         → recorded_of kept.numbers.references kept.threshold j (buckets_of cs ts)
-        ≡ record { done = true; histogram = record_in kept.threshold j (buckets_of cs ts) }
+        ≡ outcome (gives tt) (record_in kept.threshold j (buckets_of cs ts))
     records t = recording ∙ rw t
 
     module _ (cs' ts' : List ℕ) where
       -- nothing was recorded: the bucket is torn, and all is as it was
-      pub nothing_recorded : recorded false cs' ts' ≡ recorded_of kept.numbers.references kept.threshold j (buckets_of cs ts)
-          → outcome (refused 3) (tracker kept ls cs' ts') ≡ refer_of x s
-      nothing_recorded e = cases (torn_for x s)
+      pub nothing_recorded : {n : ℕ} → outcome (refused n) (buckets_of cs' ts') ≡ recorded_of kept.numbers.references kept.threshold j (buckets_of cs ts)
+          → outcome (refused n) (tracker kept ls cs' ts') ≡ refer_of x s
+      nothing_recorded {n} e = cases (torn_for x s)
           (λ t. (λ i. record {
-            result = refused 3;
-            left = record { kept = kept; tables = record { locations = ls; histogram = ((e ∙ refuses t) i).histogram } };
+            result = refused (refused_same (ap (λ r. r.result) (e ∙ refuses t)) i);
+            left = record { kept = kept; tables = record { locations = ls; histogram = ((e ∙ refuses t) i).left } };
           })
           ∙ sym (refer_bucket x s w.record_whole w.tables_long w.room t))
-          (λ t. clash refl (ap (λ r. r.done) (sym (e ∙ records t))))
+          (λ t. absurd (not_both {n = n} refl (ap (λ r. r.result) (e ∙ records t))))
 
       -- it was recorded, and the rest of the step is left
-      pub recorded_left : recorded true cs' ts' ≡ recorded_of kept.numbers.references kept.threshold j (buckets_of cs ts)
+      pub recorded_left : outcome (gives tt) (buckets_of cs' ts') ≡ recorded_of kept.numbers.references kept.threshold j (buckets_of cs ts)
           → (buckets_of cs' ts' ≡ record_in kept.threshold j (buckets_of cs ts))
           × (refer_of x s
           ≡ (let r = sampled_step (hash_for kept.settings) kept.settings.limit (profile_of kept.settings) x (sample_of s) place in
           record { result = gives r.reply; left = stored r s }))
       recorded_left e = cases (torn_for x s)
-          (λ t. clash refl (ap (λ r. r.done) (e ∙ refuses t)))
+          (λ t. absurd (not_both {n = 3} (ap (λ r. r.result) (e ∙ refuses t)) refl))
           (λ t. (
-            ap (λ r. r.histogram) (e ∙ records t),
+            ap (λ r. r.left) (e ∙ records t),
             refer_accept x s (record { record_whole = w.record_whole; tables_long = w.tables_long; room = w.room; bucket_sound = t })
                 ∙ (let q = step_sampled (hash_for kept.settings) kept.settings.limit (profile_of kept.settings) x (sample_of s) w.below
                 ∙ ap (sampled_step (hash_for kept.settings) kept.settings.limit (profile_of kept.settings) x (sample_of s)) found in
@@ -114,20 +116,20 @@ module _ (x : ℕ) (kept : Record) (ls cs ts : List ℕ) (w : Samples x (tracker
           ))
 
   -- the location stands at the place d
-  pub again_done : (d : ℕ) → first_place x (live_of s) ≡ some d
-      → (j : ℕ) → j ≡ bucket_for (profile_of kept.settings) kept.threshold (some d) → (ls' cs' ts' : List ℕ)
-      → recorded true cs' ts' ≡ recorded_of kept.numbers.references kept.threshold j (buckets_of cs ts) → ls' ≡ moved_to_front d x ls
-      → outcome (gives (again d)) (tracker (counted_in kept kept.threshold kept.live 1) ls' cs' ts') ≡ refer_of x s
+  pub again_done : (d : ℕ) → first_place x (live_of s) ≡ Some d
+      → (j : ℕ) → j ≡ bucket_for (profile_of kept.settings) kept.threshold (Some d) → (ls' cs' ts' : List ℕ)
+      → outcome (gives tt) (buckets_of cs' ts') ≡ recorded_of kept.numbers.references kept.threshold j (buckets_of cs ts) → ls' ≡ moved_to_front d x ls
+      → outcome (gives (Again d)) (tracker (counted_in kept kept.threshold kept.live 1) ls' cs' ts') ≡ refer_of x s
   unfolding sampled_step
   again_done d found j is ls' cs' ts' e m =
-      let r = recorded_left (some d) found j is cs' ts' e in
+      let r = recorded_left (Some d) found j is cs' ts' e in
       let b = found_below x kept.live ls d found in
       let l : kept.live ≡ length (to_front d x (live_of s)) = sym (front_length d x (live_of s) (omega (arith, counted_live, b.0)) ∙ counted_live) in
       let o : ls' ≡ over (to_front d x (live_of s)) ls =
       m ∙ moved_over x d kept.live ls b.0 (omega (arith, bounds.live_high, long.locations_long)) in
       let h = r.0 ∙ ap (λ z. record_in kept.threshold z (buckets_of cs ts)) is in
       (λ i. record {
-        result = gives (again d);
+        result = gives (Again d);
         left = record { kept = counted_in kept kept.threshold (l i) 1; tables = record { locations = o i; histogram = h i } };
       })
       ∙ sym r.1
@@ -135,21 +137,21 @@ module _ (x : ℕ) (kept : Record) (ls cs ts : List ℕ) (w : Samples x (tracker
   -- what a first reference leaves, by what the list came to, and the buckets
   abbrev entered : Lowering → Histogram → Outcome Reply Tracker
   entered z g = record {
-    result = gives first;
+    result = gives First;
     left = record {
       kept = counted_in kept z.result.threshold z.result.live 1;
       tables = record { locations = z.table; histogram = g };
     };
   }
 
-  module _ (None-found : first_place x (live_of s) ≡ none) (ls' cs' ts' : List ℕ)
-      (e : recorded true cs' ts' ≡ recorded_of kept.numbers.references kept.threshold (kept.settings.buckets + 1) (buckets_of cs ts)) where
+  module _ (None-found : first_place x (live_of s) ≡ None) (ls' cs' ts' : List ℕ)
+      (e : outcome (gives tt) (buckets_of cs' ts') ≡ recorded_of kept.numbers.references kept.threshold (kept.settings.buckets + 1) (buckets_of cs ts)) where
     -- it entered the list, with room or with a lowering
     pub first_done : (low : Lowered) → lowering low ls' ≡ entered_of kept x ls
-        → outcome (gives first) (tracker (counted_in kept low.threshold low.live 1) ls' cs' ts') ≡ refer_of x s
+        → outcome (gives First) (tracker (counted_in kept low.threshold low.live 1) ls' cs' ts') ≡ refer_of x s
     unfolding sampled_step within_limit
     first_done low m =
-        let r = recorded_left none None-found (kept.settings.buckets + 1) refl cs' ts' e in
+        let r = recorded_left None None-found (kept.settings.buckets + 1) refl cs' ts' e in
         let l = counted_live in
         let longer = suc (length (take kept.live ls)) in
         cases (ltb kept.live kept.settings.limit)
@@ -171,7 +173,7 @@ module _ (x : ℕ) (kept : Record) (ls cs ts : List ℕ) (w : Samples x (tracker
 pub skipped_done : (x : ℕ) (kept : Record) (ls cs ts : List ℕ)
     → torn_record kept ≡ false → too_short kept.settings (tables_of ls cs ts) ≡ false → full kept.numbers ≡ false
     → under (hash_for kept.settings) kept.threshold x ≡ false
-    → outcome (gives skipped) (tracker (counted_in kept kept.threshold kept.live 0) ls cs ts) ≡ refer_of x (tracker kept ls cs ts)
+    → outcome (gives Skipped) (tracker (counted_in kept kept.threshold kept.live 0) ls cs ts) ≡ refer_of x (tracker kept ls cs ts)
 skipped_done x kept ls cs ts e f g h =
     let s = tracker kept ls cs ts in
     let n : kept.live ≤ length ls = omega (arith, (whole kept e).live_high, (all_long kept.settings s.tables f).locations_long) in
@@ -179,7 +181,7 @@ skipped_done x kept ls cs ts e f g h =
     let z : kept.numbers.sampled + 0 ≡ kept.numbers.sampled = omega arith in
     let q = step_skipped (hash_for kept.settings) kept.settings.limit (profile_of kept.settings) x (sample_of s) h in
     (λ i. record {
-      result = gives skipped;
+      result = gives Skipped;
       left = record {
         kept = record {
           settings = kept.settings;
@@ -192,21 +194,17 @@ skipped_done x kept ls cs ts e f g h =
     })
     ∙ sym (refer_accept x s a ∙ (λ i. record { result = gives (q i).reply; left = stored (q i) s }))
 
-abbrev is_some : Option Record → Bool
-is_some (some k) = true
-is_some none = false
-
-pub not_none : {C : Type 0} {after : Record} → some after ≡ none → C
-not_none {after = after} e = clash {b = is_some (some after)} refl (ap is_some e)
+pub not_none : {C : Type 0} {after : Record} → Some after ≡ None → C
+not_none e = absurd (cc)
 
 -- what is skipped is what the rules skip
-pub skip_is : (x : ℕ) (kept : Record) (ls cs ts : List ℕ) {after : Record} → some after ≡ skip_of x (tracker kept ls cs ts)
-    → outcome (gives skipped) (tracker after ls cs ts) ≡ refer_of x (tracker kept ls cs ts)
+pub skip_is : (x : ℕ) (kept : Record) (ls cs ts : List ℕ) {after : Record} → Some after ≡ skip_of x (tracker kept ls cs ts)
+    → outcome (gives Skipped) (tracker after ls cs ts) ≡ refer_of x (tracker kept ls cs ts)
 skip_is x kept ls cs ts {after} is = cases (torn_record kept) (λ e. not_none (rw e at is))
     (λ e. cases (too_short kept.settings (tables_of ls cs ts)) (λ f. not_none (rw (e, f) at is))
     (λ f. cases (full kept.numbers) (λ g. not_none (rw (e, f, g) at is))
     (λ g. cases (under (hash_for kept.settings) kept.threshold x) (λ h. not_none (rw (e, f, g, h) at is))
-    (λ h. ap (λ z. outcome (gives skipped) (tracker z ls cs ts)) (some_injective (rw (e, f, g, h) at is)) ∙ skipped_done x kept ls cs ts e f g h))))
+    (λ h. ap (λ z. outcome (gives Skipped) (tracker z ls cs ts)) (some_injective (rw (e, f, g, h) at is)) ∙ skipped_done x kept ls cs ts e f g h))))
   where
-    some_injective : {a b : Record} → some a ≡ some b → a ≡ b
+    some_injective : {a b : Record} → Some a ≡ Some b → a ≡ b
     some_injective e = cc

@@ -1,18 +1,10 @@
 -- What the functions for one reference pass to each other. Assumes nothing.
-use Rattle.std.specs.Prelude.{ℕ, ◌+◌, ◌≡◌, true, false, cond, List, ltb}
-use Rattle.std.proofs.Math.Option.{Option, some, none}
+use Rattle.std.specs.Prelude.{Option, Some, None, ℕ, ◌+◌, ◌≡◌, true, false, cond, List, ltb}
 use Rattle.rules.specs.declared.Record.{Record}
-use Rattle.rules.specs.declared.Referred.{Referred}
-use Rattle.rules.specs.declared.Answer.{Answer}
 use Rattle.rules.specs.Reference.{under}
 use Rattle.rules.specs.Layout.{Tracker, hash_for}
 use Rattle.rules.specs.Conditions.{too_short, torn_record, full}
-use Rattle.refer.specs.declared.Skipping.{Skipping}
-use Rattle.refer.specs.declared.Skipping.TheVariants as skipping
 use Rattle.live.specs.Live.{Lowering, moved_to_front, lowering, lowering_of}
-
-abbrev pub referred_of : Record → Answer → Referred
-referred_of kept a = record { kept = kept; answer = a }
 
 -- the record with this threshold and live number, one more reference, and `sampled` more sampled ones
 abbrev pub counted_in : Record → (threshold live sampled : ℕ) → Record
@@ -40,11 +32,7 @@ pub record Samples (x : ℕ) (s : Tracker) : Type 0 where
 -- the record after a reference that is accepted and not sampled; none if it is refused or sampled
 abbrev pub skip_of : (x : ℕ) → Tracker → Option Record
 skip_of x s =
-    cond (torn_record s.kept) none
-    (cond (too_short s.kept.settings s.tables) none
-    (cond (full s.kept.numbers) none
-    (cond (under (hash_for s.kept.settings) s.kept.threshold x) none (some (counted_in s.kept s.kept.threshold s.kept.live 0)))))
-
-abbrev pub skip_result : Skipping → Option Record
-skip_result (skipping.Counted kept) = some kept
-skip_result skipping.Not = none
+    cond (torn_record s.kept) None
+    (cond (too_short s.kept.settings s.tables) None
+    (cond (full s.kept.numbers) None
+    (cond (under (hash_for s.kept.settings) s.kept.threshold x) None (Some (counted_in s.kept s.kept.threshold s.kept.live 0)))))

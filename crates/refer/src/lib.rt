@@ -2,29 +2,18 @@
 // and contents.
 #![tactic(auto)]
 
-ghost use Rattle.std.specs.Prelude.{◌≡◌, ◌<◌, ◌≤◌};
-ghost use Rattle.std.proofs.Math.Option.{some, none};
+ghost use Rattle.std.specs.Prelude.{◌≡◌, ◌<◌, ◌≤◌, Some, None};
 ghost use Rattle.rules.specs.Settings.{most_references, most_limit};
 ghost use Rattle.rules.specs.Reference.{first_place, scaled_distance};
-ghost use Rattle.rules.specs.Answers.{reply_result};
+ghost use Rattle.rules.specs.Answers.{result_of};
 ghost use Rattle.rules.specs.Order.{outcome};
 ghost use Rattle.rules.specs.Layout.{tracker, live_of};
 ghost use Rattle.rules.specs.Calls.{refer_of};
-ghost use Rattle.refer.specs.Refer.{referred_of, counted_in, entered_of, Samples, skip_result, skip_of};
+ghost use Rattle.refer.specs.Refer.{counted_in, entered_of, Samples, skip_of};
 ghost use Rattle.live.specs.Live.{lowering};
 
-use live::{Found, Lowered};
-use rules::{Answer, FULL_RATE, Numbers, Record, Referred, Refusal};
-
-// A refusal, with the record unchanged.
-fn refused(kept: Record, why: Refusal) -> Referred
-    ensures { result ≡ referred_of kept (Answer.Refused why) }
-{
-    Referred {
-        kept: kept,
-        answer: Answer::Refused(why),
-    }
-}
+use live::Lowered;
+use rules::{FULL_RATE, Numbers, Record, Refusal, Reply};
 
 // The record with this threshold and live number, one more reference, and `sampled` more sampled ones.
 fn counted_in(kept: Record, threshold: u64, live: u64, sampled: u64) -> Record
@@ -54,31 +43,26 @@ fn scaled_distance(place: usize, threshold: u64) -> u64
 
 // A sampled reference to a location that first occurs at `place` in the live list.
 fn again_at(
-    kept: Record,
+    kept: &mut Record,
     location: u64,
     place: usize,
     locations: &mut [u64],
     counts: &mut [u64],
     thresholds: &mut [u32],
-) -> Referred
-    requires { Samples location (tracker kept locations.old counts.old thresholds.old)
-        × (first_place location (live_of (tracker kept locations.old counts.old thresholds.old)) ≡ some place) }
-    ensures { outcome (reply_result result.answer) (tracker result.kept locations.new counts.new thresholds.new)
-        ≡ refer_of location (tracker kept locations.old counts.old thresholds.old) }
+) -> Result<Reply, Refusal>
+    requires { Samples location (tracker kept.old locations.old counts.old thresholds.old)
+        × (first_place location (live_of (tracker kept.old locations.old counts.old thresholds.old)) ≡ Some place) }
+    ensures { outcome (result_of result) (tracker kept.new locations.new counts.new thresholds.new)
+        ≡ refer_of location (tracker kept.old locations.old counts.old thresholds.old) }
 {
     let threshold = kept.threshold;
     let distance = scaled_distance(place, threshold);
     let bucket = profile::bucket_of(kept.settings.width, kept.settings.buckets, distance) as usize;
     let references = kept.numbers.references as u32;
-    if buckets::record_in(counts, thresholds, bucket, threshold, references) {
-        live::to_front(locations, place, location);
-        Referred {
-            kept: counted_in(kept, threshold, kept.live, 1),
-            answer: Answer::Again(place as u64),
-        }
-    } else {
-        refused(kept, Refusal::Torn)
-    }
+    buckets::record_in(counts, thresholds, bucket, threshold, references)?;
+    live::to_front(locations, place, location);
+    *kept = counted_in(*kept, threshold, kept.live, 1);
+    Ok(Reply::Again(place as u64))
 }
 
 // Puts a location at the front of the live list, and lowers the threshold if there is no room for it. Returns the threshold and the
@@ -105,109 +89,93 @@ fn enter(kept: Record, location: u64, locations: &mut [u64]) -> Lowered
 
 // A sampled reference to a location that is not in the live list.
 fn first_time(
-    kept: Record,
+    kept: &mut Record,
     location: u64,
     locations: &mut [u64],
     counts: &mut [u64],
     thresholds: &mut [u32],
-) -> Referred
-    requires { Samples location (tracker kept locations.old counts.old thresholds.old)
-        × (first_place location (live_of (tracker kept locations.old counts.old thresholds.old)) ≡ none) }
-    ensures { outcome (reply_result result.answer) (tracker result.kept locations.new counts.new thresholds.new)
-        ≡ refer_of location (tracker kept locations.old counts.old thresholds.old) }
+) -> Result<Reply, Refusal>
+    requires { Samples location (tracker kept.old locations.old counts.old thresholds.old)
+        × (first_place location (live_of (tracker kept.old locations.old counts.old thresholds.old)) ≡ None) }
+    ensures { outcome (result_of result) (tracker kept.new locations.new counts.new thresholds.new)
+        ≡ refer_of location (tracker kept.old locations.old counts.old thresholds.old) }
 {
     let threshold = kept.threshold;
     let bucket = (kept.settings.buckets + 1) as usize;
     let references = kept.numbers.references as u32;
-    if buckets::record_in(counts, thresholds, bucket, threshold, references) {
-        let entered = enter(kept, location, locations);
-        Referred {
-            kept: counted_in(kept, entered.threshold, entered.live as u64, 1),
-            answer: Answer::First,
-        }
-    } else {
-        refused(kept, Refusal::Torn)
-    }
+    buckets::record_in(counts, thresholds, bucket, threshold, references)?;
+    let entered = enter(*kept, location, locations);
+    *kept = counted_in(*kept, entered.threshold, entered.live as u64, 1);
+    Ok(Reply::First)
 }
 
 // A sampled reference, to a location in the live list or to a new one.
 fn sampled(
-    kept: Record,
+    kept: &mut Record,
     location: u64,
     locations: &mut [u64],
     counts: &mut [u64],
     thresholds: &mut [u32],
-) -> Referred
-    requires { Samples location (tracker kept locations.old counts.old thresholds.old) }
-    ensures { outcome (reply_result result.answer) (tracker result.kept locations.new counts.new thresholds.new)
-        ≡ refer_of location (tracker kept locations.old counts.old thresholds.old) }
+) -> Result<Reply, Refusal>
+    requires { Samples location (tracker kept.old locations.old counts.old thresholds.old) }
+    ensures { outcome (result_of result) (tracker kept.new locations.new counts.new thresholds.new)
+        ≡ refer_of location (tracker kept.old locations.old counts.old thresholds.old) }
 {
     match live::first_place(locations, kept.live as usize, location) {
-        Found::At(place) => again_at(kept, location, place, locations, counts, thresholds),
-        Found::Nothing => first_time(kept, location, locations, counts, thresholds),
+        Some(place) => again_at(kept, location, place, locations, counts, thresholds),
+        None => first_time(kept, location, locations, counts, thresholds),
     }
 }
 
-// Most references: accepted, and not sampled.
-#[derive(Clone, Copy)]
-pub enum Skipping {
-    // The reference is Skipped, and this is the record after it.
-    Counted(Record),
-    // It is refused or sampled.
-    Not,
-}
-
-// Whether a reference is accepted and Skipped: then only the number of references rises, and nothing else changes. `refer` says the
-// same; this is the part of it that is short enough to be compiled into each caller.
+// The record after a reference that is accepted and Skipped: then only the number of references rises, and nothing else changes. `None` if
+// it is refused or sampled. `refer` says the same; this is the part of it that is short enough to be compiled into each caller.
 pub fn skip(
     kept: Record,
     location: u64,
     locations: &[u64],
     counts: &[u64],
     thresholds: &[u32],
-) -> Skipping
-    ensures { skip_result result ≡ skip_of location (tracker kept locations.now counts.now thresholds.now) }
+) -> Option<Record>
+    ensures { result ≡ skip_of location (tracker kept locations.now counts.now thresholds.now) }
 {
     if judge::torn(kept) {
-        return Skipping::Not;
+        return None;
     }
     if judge::too_short(kept.settings, locations, counts, thresholds) {
-        return Skipping::Not;
+        return None;
     }
     if judge::is_full(kept.numbers) {
-        return Skipping::Not;
+        return None;
     }
     if hash::hash_of(kept.settings.hashing, location) < kept.threshold {
-        return Skipping::Not;
+        return None;
     }
-    Skipping::Counted(counted_in(kept, kept.threshold, kept.live, 0))
+    Some(counted_in(kept, kept.threshold, kept.live, 0))
 }
 
 // One reference.
 pub fn refer(
-    kept: Record,
+    kept: &mut Record,
     location: u64,
     locations: &mut [u64],
     counts: &mut [u64],
     thresholds: &mut [u32],
-) -> Referred
-    ensures { outcome (reply_result result.answer) (tracker result.kept locations.new counts.new thresholds.new)
-        ≡ refer_of location (tracker kept locations.old counts.old thresholds.old) }
+) -> Result<Reply, Refusal>
+    ensures { outcome (result_of result) (tracker kept.new locations.new counts.new thresholds.new)
+        ≡ refer_of location (tracker kept.old locations.old counts.old thresholds.old) }
 {
-    if judge::torn(kept) {
-        return refused(kept, Refusal::Torn);
+    if judge::torn(*kept) {
+        return Err(Refusal::Torn);
     }
     if judge::too_short(kept.settings, locations, counts, thresholds) {
-        return refused(kept, Refusal::Tables);
+        return Err(Refusal::Tables);
     }
     if judge::is_full(kept.numbers) {
-        return refused(kept, Refusal::Full);
+        return Err(Refusal::Full);
     }
     if kept.threshold <= hash::hash_of(kept.settings.hashing, location) {
-        return Referred {
-            kept: counted_in(kept, kept.threshold, kept.live, 0),
-            answer: Answer::Skipped,
-        };
+        *kept = counted_in(*kept, kept.threshold, kept.live, 0);
+        return Ok(Reply::Skipped);
     }
     sampled(kept, location, locations, counts, thresholds)
 }

@@ -3,6 +3,7 @@
 use Prim.Native.Nat.{ℕ, max}
 use mathlib.Core.Path.{◌≡◌, ap, ◌∙◌}
 use native.Mathlib.Omega.{arith}
+use Rattle.std.proofs.lemmas.Result.{err_from_is_err_and}
 use Rattle.rules.specs.declared.Record.{Record}
 use Rattle.rules.specs.Reference.{widths, scaled_distance}
 use Rattle.rules.specs.Layout.{profile_of}
@@ -23,36 +24,37 @@ bucket_is kept place {scaled = scaled} whole p q =
 pub scaled_distance-distance-requires : goal.scaled_distance-distance-requires
 scaled_distance-distance-requires c =
     let a = c.args in
-    let b = bounds a.location a.kept a.locations.now a.counts.now a.thresholds.now c.requires.0 in
-    let found = found_below a.location a.kept.live a.locations.now a.place c.requires.1 in (
+    let b = bounds a.location a.kept.now a.locations.now a.counts.now a.thresholds.now c.requires.0 in
+    let found = found_below a.location a.kept.now.live a.locations.now a.place c.requires.1 in (
       omega (arith, found.0, b.live_high, b.range.limit_high),
-      threshold_some a.location a.kept a.locations.now a.counts.now a.thresholds.now c.requires.0,
+      threshold_some a.location a.kept.now a.locations.now a.counts.now a.thresholds.now c.requires.0,
     )
 
 pub overflow_cast-references : goal.overflow_cast-references
 overflow_cast-references c =
     let a = c.args in
-    let b = bounds a.location a.kept a.locations.now a.counts.now a.thresholds.now c.requires.0 in
+    let b = bounds a.location a.kept.now a.locations.now a.counts.now a.thresholds.now c.requires.0 in
     omega (arith, b.references_high)
 
 pub counted_in-requires : goal.counted_in-requires
 counted_in-requires c =
     let a = c.args in
-    countable a.location a.kept a.locations.now a.counts.now a.thresholds.now c.requires.0
+    countable a.location a.kept.now a.locations.now a.counts.now a.thresholds.now c.requires.0
 
-pub returns-then-record_in : goal.returns-then-record_in
-returns-then-record_in c =
+pub returns : goal.returns
+returns c =
     let a = c.args in
-    let b = bounds a.location a.kept a.locations.now a.counts.now a.thresholds.now c.requires.0 in
+    let b = bounds a.location a.kept.now a.locations.now a.counts.now a.thresholds.now c.requires.0 in
     rw c.counted_in.ensures (again_done _ _ _ _ _ c.requires.0 _ c.requires.1
-    _ (bucket_is a.kept a.place b c.scaled_distance-distance.ensures c.bucket_of-bucket.ensures)
-    _ _ _ (rw c.if-record_in.true at c.record_in.ensures)
+    _ (bucket_is a.kept.now a.place b c.scaled_distance-distance.ensures c.bucket_of-bucket.ensures)
+    _ _ _ c.in_ok-record_in.ensures
     c.to_front.ensures)
 
-pub returns-else-record_in : goal.returns-else-record_in
-returns-else-record_in c =
+pub returns-in_err-record_in : goal.returns-in_err-record_in
+returns-in_err-record_in c =
     let a = c.args in
-    let b = bounds a.location a.kept a.locations.now a.counts.now a.thresholds.now c.requires.0 in
-    rw c.refused.ensures (nothing_recorded _ _ _ _ _ c.requires.0 _ c.requires.1
-    _ (bucket_is a.kept a.place b c.scaled_distance-distance.ensures c.bucket_of-bucket.ensures)
-    _ _ (rw c.if-record_in.false at c.record_in.ensures))
+    let b = bounds a.location a.kept.now a.locations.now a.counts.now a.thresholds.now c.requires.0 in
+    let passed = err_from_is_err_and c.from_residual.result c.from_residual.ensures.1 in
+    rw (passed.1, passed.2) (nothing_recorded _ _ _ _ _ c.requires.0 _ c.requires.1
+    _ (bucket_is a.kept.now a.place b c.scaled_distance-distance.ensures c.bucket_of-bucket.ensures)
+    _ _ c.in_err-record_in.ensures)

@@ -8,23 +8,22 @@ use Rattle.refer.proofs.OneReference.{room_for, skipped_done}
 use Rattle.refer.proofs.refer.Goals as goal
 
 pub returns-then-torn : goal.returns-then-torn
-returns-then-torn c = rw c.refused.ensures (sym (refer_torn _ _ (sym c.torn.ensures ∙ c.if-torn.true)))
+returns-then-torn c = sym (refer_torn _ _ (sym c.torn.ensures ∙ c.if-torn.true))
 
 pub returns-then-too_short : goal.returns-then-too_short
 returns-then-too_short c =
     let not_torn = sym c.torn.ensures ∙ c.if-torn.false in
     let short = sym c.too_short.ensures ∙ c.if-too_short.true in
-    rw c.refused-then-too_short.ensures (sym (refer_short _ _ not_torn short))
+    sym (refer_short _ _ not_torn short)
 
 pub returns-then-is_full : goal.returns-then-is_full
 returns-then-is_full c =
     let not_torn = sym c.torn.ensures ∙ c.if-torn.false in
     let not_short = sym c.too_short.ensures ∙ c.if-too_short.false in
-    rw c.refused-then-is_full.ensures (sym (refer_full _ _ not_torn not_short
-    (sym c.is_full.ensures ∙ c.if-is_full.true)))
+    sym (refer_full _ _ not_torn not_short (sym c.is_full.ensures ∙ c.if-is_full.true))
 
 pub counted_in-requires : goal.counted_in-requires
-counted_in-requires c = room_for _ 0 (sym c.torn.ensures ∙ c.if-torn.false) (sym c.is_full.ensures ∙ c.if-is_full.false) (omega arith)
+counted_in-requires c = room_for _ _ (sym c.torn.ensures ∙ c.if-torn.false) (sym c.is_full.ensures ∙ c.if-is_full.false) (omega arith)
 
 pub returns-then-kept-hash_of : goal.returns-then-kept-hash_of
 returns-then-kept-hash_of c =
