@@ -3,15 +3,17 @@ use mathlib.Core.Path.{◌≡◌, sym, ◌∙◌}
 use Prim.Native.Nat.{ℕ}
 use mathlib.Core.List.{List}
 use denote.Ref.{Bor}
-use Rattle.rules.specs.declared.Reading.{Reading}
-use Rattle.rules.specs.Answers.{reading_result}
+use Rattle.std.specs.declared.result.Result as told
+use Rattle.rules.specs.declared.Got.{Got}
+use Rattle.rules.specs.declared.Refusal.{Refusal}
+use Rattle.rules.specs.Answers.{result_of}
 use Rattle.rules.specs.Events.{read_of, unread_of}
 use Rattle.rules.specs.Layout.{part, tail_of}
-use Rattle.rules.proofs.Answers.{reading_injective}
+use Rattle.rules.proofs.Answers.{result_injective}
 use Rattle.rules.proofs.Tables.{part_injective}
 
-pub read_once : (bytes : List ℕ) (a b : Reading) → reading_result a ≡ read_of bytes → reading_result b ≡ read_of bytes → a ≡ b
-read_once bytes a b p q = reading_injective a b (p ∙ sym q)
+pub read_once : (bytes : List ℕ) (a b : told.Result Got Refusal) → result_of a ≡ read_of bytes → result_of b ≡ read_of bytes → a ≡ b
+read_once bytes a b p q = result_injective a b (p ∙ sym q)
 
 -- the part that is handed back: where it stands, and its bytes
 pub unread_once : (bytes a b : Bor (List ℕ))

@@ -2,71 +2,75 @@
 #![tactic(auto)]
 
 ghost use Rattle.std.specs.Prelude.{◌≡◌, ◌≤◌, length, drop};
-ghost use Rattle.rules.specs.Answers.{reading_result};
+ghost use Rattle.rules.specs.Answers.{result_of};
 ghost use Rattle.rules.specs.Events.{number_at, setup_body_of, if_all_there, read_of, unread_of};
 ghost use Rattle.rules.specs.Layout.{part, tail_of};
 
 use rules::{
-    Event, LOCATION_BYTES, RESTART_BYTES, Reading, Refusal, SETUP_BYTES, SPAN_BYTES, SetupBody,
+    Event, Got, Kind, LOCATION_BYTES, RESTART_BYTES, Refusal, SETUP_BYTES, SPAN_BYTES, SetupBody,
 };
 
-fn read_location(bytes: &[u8]) -> Reading
-    ensures { reading_result result ≡ if_all_there 9 (Event.Location (number_at 8 1 bytes.now)) bytes.now }
+fn read_location(bytes: &[u8]) -> Result<Got, Refusal>
+    ensures { result_of result ≡ if_all_there 9 (Event.Location (number_at 8 1 bytes.now)) bytes.now }
 {
     if bytes.len() < LOCATION_BYTES {
-        return Reading::Refused(Refusal::Short);
+        return Err(Refusal::Short);
     }
-    Reading::Got(
-        Event::Location(little_endian::get_eight(bytes, 1)),
-        LOCATION_BYTES,
-    )
+    Ok(Got {
+        event: Event::Location(little_endian::get::<8>(bytes, 1)),
+        taken: LOCATION_BYTES,
+    })
 }
 
-fn read_span(bytes: &[u8]) -> Reading
-    ensures { reading_result result
-        ≡ if_all_there 13 (Event.Span (number_at 8 1 bytes.now) (number_at 4 9 bytes.now)) bytes.now }
+fn read_span(bytes: &[u8]) -> Result<Got, Refusal>
+    ensures { result_of result ≡ if_all_there 13 (Event.Span (number_at 8 1 bytes.now) (number_at 4 9 bytes.now)) bytes.now }
 {
     if bytes.len() < SPAN_BYTES {
-        return Reading::Refused(Refusal::Short);
+        return Err(Refusal::Short);
     }
-    let offset = little_endian::get_eight(bytes, 1);
-    let length = little_endian::get_four(bytes, 9);
+    let offset = little_endian::get::<8>(bytes, 1);
+    let length = little_endian::get::<4>(bytes, 9) as u32;
     if judge::overruns(offset, length) {
-        return Reading::Refused(Refusal::Overrun);
+        return Err(Refusal::Overrun);
     }
-    Reading::Got(Event::Span { offset, length }, SPAN_BYTES)
+    Ok(Got {
+        event: Event::Span { offset, length },
+        taken: SPAN_BYTES,
+    })
 }
 
-fn read_setup(bytes: &[u8]) -> Reading
-    ensures { reading_result result ≡ if_all_there 18 (Event.Setup (setup_body_of bytes.now)) bytes.now }
+fn read_setup(bytes: &[u8]) -> Result<Got, Refusal>
+    ensures { result_of result ≡ if_all_there 18 (Event.Setup (setup_body_of bytes.now)) bytes.now }
 {
     if bytes.len() < SETUP_BYTES {
-        return Reading::Refused(Refusal::Short);
+        return Err(Refusal::Short);
     }
     let body = SetupBody {
-        limit: little_endian::get_four(bytes, 1),
-        start: little_endian::get_four(bytes, 5),
-        width: little_endian::get_four(bytes, 9),
-        buckets: little_endian::get_four(bytes, 13),
-        kind: little_endian::get_one(bytes, 17),
+        limit: little_endian::get::<4>(bytes, 1) as u32,
+        start: little_endian::get::<4>(bytes, 5) as u32,
+        width: little_endian::get::<4>(bytes, 9) as u32,
+        buckets: little_endian::get::<4>(bytes, 13) as u32,
+        kind: little_endian::get::<1>(bytes, 17) as u8,
     };
-    Reading::Got(Event::Setup(body), SETUP_BYTES)
+    Ok(Got {
+        event: Event::Setup(body),
+        taken: SETUP_BYTES,
+    })
 }
 
-// The first event of the bytes, with the number of bytes it took.
-pub fn read(bytes: &[u8]) -> Reading
-    ensures { reading_result result ≡ read_of bytes.now }
+// The first event of the bytes, beside the number of bytes that it took.
+pub fn read(bytes: &[u8]) -> Result<Got, Refusal>
+    ensures { result_of result ≡ read_of bytes.now }
 {
-    if bytes.len() == 0 {
-        return Reading::Refused(Refusal::Short);
-    }
-    let kind = bytes[0];
-    match kind {
-        1 => read_location(bytes),
-        2 => read_span(bytes),
-        3 => Reading::Got(Event::Restart, RESTART_BYTES),
-        4 => read_setup(bytes),
-        _ => Reading::Refused(Refusal::Kind),
+    let first = bytes.first().ok_or(Refusal::Short)?;
+    match Kind::try_from(*first)? {
+        Kind::Location => read_location(bytes),
+        Kind::Span => read_span(bytes),
+        Kind::Restart => Ok(Got {
+            event: Event::Restart,
+            taken: RESTART_BYTES,
+        }),
+        Kind::Setup => read_setup(bytes),
     }
 }
 
@@ -82,7 +86,7 @@ pub fn unread(bytes: &[u8]) -> &[u8]
     ensures { part result ≡ tail_of bytes.entry (unread_of bytes.now) }
 {
     match read(bytes) {
-        Reading::Got(_, taken) => rest(bytes, taken),
-        Reading::Refused(_) => rest(bytes, 0),
+        Ok(got) => rest(bytes, got.taken),
+        Err(_) => rest(bytes, 0),
     }
 }

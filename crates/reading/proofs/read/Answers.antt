@@ -1,27 +1,38 @@
 -- The first byte is the kind, and each kind's reader promises what the definition gives for it; with no byte, and for any other kind, the
 -- definition refuses.
-use native.Mathlib.Omega.{arith}
-use native.Mathlib.Nat.{pos_of_ne-zero}
 use mathlib.Core.Path.{refl, sym, ◌∙◌}
-use Rattle.rules.proofs.Events.{read_empty, read_kind, read_other, whole_fits}
+use Rattle.std.proofs.lemmas.Result.{err_from_is_err_and}
+use Rattle.rules.proofs.Events.{whole_fits}
+use Rattle.reading.proofs.Laws.{read_none, there, read_known, read_unknown}
 use Rattle.reading.proofs.read.Goals as goal
 
-pub returns-then-bytes-eq0 : goal.returns-then-bytes-eq0
-returns-then-bytes-eq0 c = sym (read_empty _ c.if-bytes-eq0.true)
+pub returns-in_err-first : goal.returns-in_err-first
+returns-in_err-first c =
+    let none = c.in_err-first.ensures in
+    let p = err_from_is_err_and c.from_residual.result c.from_residual.ensures.1 in
+    rw (p.1, p.2) (read_none c.args.bytes.now c.first.ensures.value none.value none.ok_part)
 
-pub returns-in-1 : goal.returns-in-1
-returns-in-1 c = c.read_location.ensures ∙ sym (read_kind 1 _ c.if-bytes-eq0.false c.in-1.is)
+pub returns-in_err-try_from : goal.returns-in_err-try_from
+returns-in_err-try_from c =
+    let p = err_from_is_err_and c.from_residual-in_err-try_from.result c.from_residual-in_err-try_from.ensures.1 in
+    rw (p.1, p.2) (read_unknown c.args.bytes.now c.first.ensures.value c.in_ok-first.ensures.ok_part c.in_err-try_from.ensures)
 
-pub returns-in-2 : goal.returns-in-2
-returns-in-2 c = c.read_span.ensures ∙ sym (read_kind 2 _ c.if-bytes-eq0.false c.in-2.is)
+pub returns-in-Location : goal.returns-in-Location
+returns-in-Location c =
+    c.read_location.ensures
+    ∙ sym (read_known c.args.bytes.now c.first.ensures.value c.in_ok-first.ensures.ok_part c.in_ok-try_from.ensures c.in-Location.is)
 
-pub returns-in-3 : goal.returns-in-3
-returns-in-3 c =
-    let any = c.if-bytes-eq0.false in
-    whole_fits 1 c.args.bytes.now refl refl (pos_of_ne-zero any) ∙ sym (read_kind 3 _ any c.in-3.is)
+pub returns-in-Span : goal.returns-in-Span
+returns-in-Span c =
+    c.read_span.ensures
+    ∙ sym (read_known c.args.bytes.now c.first.ensures.value c.in_ok-first.ensures.ok_part c.in_ok-try_from.ensures c.in-Span.is)
 
-pub returns-in-4 : goal.returns-in-4
-returns-in-4 c = c.read_setup.ensures ∙ sym (read_kind 4 _ c.if-bytes-eq0.false c.in-4.is)
+pub returns-in-Restart : goal.returns-in-Restart
+returns-in-Restart c =
+    whole_fits 1 c.args.bytes.now refl refl (there c.args.bytes.now c.first.ensures.value c.in_ok-first.ensures.ok_part)
+    ∙ sym (read_known c.args.bytes.now c.first.ensures.value c.in_ok-first.ensures.ok_part c.in_ok-try_from.ensures c.in-Restart.is)
 
-pub returns-in_default : goal.returns-in_default
-returns-in_default c = sym (read_other _ c.if-bytes-eq0.false (λ e. omega arith) (λ e. omega arith) (λ e. omega arith) (λ e. omega arith))
+pub returns-in-Setup : goal.returns-in-Setup
+returns-in-Setup c =
+    c.read_setup.ensures
+    ∙ sym (read_known c.args.bytes.now c.first.ensures.value c.in_ok-first.ensures.ok_part c.in_ok-try_from.ensures c.in-Setup.is)

@@ -9,5 +9,5 @@ use Rattle.reading.proofs.read_location.Goals as goal
 pub returns : goal.returns
 returns c =
     let bytes = c.args.bytes.now in
-    let location = c.get_eight.ensures ∙ got_there 8 1 bytes (omega arith) in
+    let location = c.get.ensures.value ∙ got_there 8 1 bytes (omega arith) in
     whole_fits 9 bytes (ap Location location) refl c.if-bytes-lt-LOCATION_BYTES.false

@@ -9,10 +9,10 @@ use Rattle.reading.proofs.read_setup.Goals as goal
 pub returns : goal.returns
 returns c =
     let bytes = c.args.bytes.now in
-    let limit = c.get_four.ensures ∙ got_there 4 1 bytes (omega arith) in
-    let start = c.get_four-2.ensures ∙ got_there 4 5 bytes (omega arith) in
-    let width = c.get_four-3.ensures ∙ got_there 4 9 bytes (omega arith) in
-    let buckets = c.get_four-4.ensures ∙ got_there 4 13 bytes (omega arith) in
-    let kind = c.get_one.ensures ∙ got_there 1 17 bytes (omega arith) in
+    let limit = c.get.ensures.value ∙ got_there 4 1 bytes (omega arith) in
+    let start = c.get-2.ensures.value ∙ got_there 4 5 bytes (omega arith) in
+    let width = c.get-3.ensures.value ∙ got_there 4 9 bytes (omega arith) in
+    let buckets = c.get-4.ensures.value ∙ got_there 4 13 bytes (omega arith) in
+    let kind = c.get-5.ensures.value ∙ got_there 1 17 bytes (omega arith) in
     whole_fits 18 bytes (λ i. Setup (record { limit = limit i; start = start i; width = width i; buckets = buckets i; kind = kind i })) refl
     c.if-bytes-lt-SETUP_BYTES.false

@@ -22,11 +22,11 @@ is bytes offset count all e f =
 pub returns-then-overruns : goal.returns-then-overruns
 returns-then-overruns c =
     let all = c.if-bytes-lt-SPAN_BYTES.false in
-    whole_overruns 13 c.args.bytes.now (is _ _ _ all c.get_eight-offset.ensures c.get_four-length.ensures)
+    whole_overruns 13 c.args.bytes.now (is _ _ _ all c.get-offset.ensures.value c.get-length.ensures.value)
     (sym c.overruns.ensures ∙ c.if-overruns.true) all
 
 pub returns : goal.returns
 returns c =
     let all = c.if-bytes-lt-SPAN_BYTES.false in
-    let got = is c.args.bytes.now _ _ all c.get_eight-offset.ensures c.get_four-length.ensures in
+    let got = is c.args.bytes.now _ _ all c.get-offset.ensures.value c.get-length.ensures.value in
     whole_fits 13 c.args.bytes.now got (ap overruns (sym got) ∙ sym c.overruns.ensures ∙ c.if-overruns.false) all

@@ -4,4 +4,4 @@ use Rattle.rules.proofs.Events.{got_taken}
 use Rattle.reading.proofs.unread.Goals as goal
 
 pub rest-requires : goal.rest-requires
-rest-requires c = omega (arith, got_taken _ c.read.ensures c.in-Got.is)
+rest-requires c = omega (arith, got_taken _ c.read.ensures c.in-Ok.is)
