@@ -5,14 +5,21 @@ use mathlib.Core.Path.{◌≡◌, refl, sym, ap, ◌∙◌}
 use mathlib.Core.List.{List, [], ◌∷◌, ◌++◌, append_assoc, append-nil}
 use native.Mathlib.Nat.{not-suc-le-zero, add-zero, pow-suc, pow-le-pow_right}
 use native.Mathlib.Omega.{arith}
+use native.Mathlib.Numerals.{add-one}
 use lib.Dec.{leb}
 use lib.ListN.{length, take, drop, take-append-drop, length-append}
-use lib.Seq.{paste, take-paste, drop-paste, take_all, drop-drop, length-paste}
+use lib.Seq.{drop-drop}
+use borrow.Rule.Slice.PartMut.{put_mid, same_len_mid}
+use Rattle.std.proofs.lemmas.List.{length-take, length-drop}
+use Rattle.std.proofs.lemmas.Slice.{take-put_mid, drop-put_mid}
 use borrow.Author.Tests.{lt-ltb, le-ltb, leb-true, leb-false}
+use Rattle.rules.specs.declared.Record.{Record}
 use Rattle.rules.specs.Lists.{over}
+use Rattle.rules.specs.Settings.{Histogram}
+use Rattle.rules.specs.Calls.{point_on}
 use Rattle.rules.proofs.Tests.{cases}
 use Rattle.io.specs.Digits.{last_digits, IsDigitCount}
-use Rattle.text.specs.Text.{decimal_most, decimal, Adds}
+use Rattle.text.specs.Text.{decimal_most, decimal, point_line, lines_to, Adds}
 
 -- ---- one text behind another
 
@@ -26,18 +33,25 @@ adds_then {a} {b} {c} {t} {u} {i} {j} {k} p q =
       fits = q.fits;
     }
 
--- all of a text, pasted
-pub adds_paste : (out text : List ℕ) (at : ℕ) → at + length text ≤ length out → Adds out at text (paste out at text (length text)) (at + length text)
-adds_paste out text at h = record {
-  front = take-paste out at text (length text) (omega arith) (omega arith) ∙ ap (λ l. take at out ++ l) (take_all (length text) text (omega arith));
-  behind = drop-paste out at text (length text) (omega arith) (omega arith);
+-- a text put over the bytes behind the first `at`
+pub adds_put : (out text : List ℕ) (at : ℕ) → at + length text ≤ length out
+    → Adds out at text (put_mid at (at + length text - at) out text) (at + length text)
+adds_put out text at h = record {
+  front = take-put_mid at (at + length text - at) out text (at + length text) refl (omega arith);
+  behind = drop-put_mid at (at + length text - at) out text (at + length text) (omega arith) (omega arith) (omega arith);
   ends = refl;
-  fits = rw (length-paste out at text (length text) h (omega arith)) h;
+  fits = rw (same_len_mid at (at + length text - at) out text (omega (arith, length-take (at + length text - at) (drop at out), length-drop at out))) h;
 }
 
--- no text
-pub adds_none : (out : List ℕ) (at : ℕ) → at ≤ length out → Adds out at [] out at
-adds_none out at h = record { front = sym (append-nil (take at out)); behind = refl; ends = sym (add-zero at); fits = h }
+-- the lines of no points, and of one point more
+pub lines_none : (out : List ℕ) (at : ℕ) (kept : Record) (g : Histogram) → at ≤ length out → Adds out at (lines_to 0 kept g) out at
+unfolding lines_to
+lines_none out at kept g h = record { front = sym (append-nil (take at out)); behind = refl; ends = sym (add-zero at); fits = h }
+
+pub lines_more : {a b c : List ℕ} {i j k : ℕ} (n : ℕ) (kept : Record) (g : Histogram)
+    → Adds a i (lines_to n kept g) b j → Adds b j (point_line (point_on kept n g)) c k → Adds a i (lines_to (n + 1) kept g) c k
+unfolding lines_to
+lines_more n kept g p q = rw (add-one n) (adds_then p q)
 
 -- a text behind nothing stands over the front
 pub over_all : {before text after : List ℕ} {n : ℕ} → Adds before 0 text after n → after ≡ over text before

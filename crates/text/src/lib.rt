@@ -2,14 +2,14 @@
 #![tactic(auto)]
 
 ghost use Rattle.std.specs.Prelude.{◌≡◌, false, ◌++◌, ◌+◌, ◌*◌, ◌≤◌, length, eqb};
-ghost use Rattle.rules.specs.Answers.{gives, number, point_result, written_result};
+ghost use Rattle.rules.specs.Answers.{gives, number, result_of};
 ghost use Rattle.rules.specs.Order.{outcome};
 ghost use Rattle.rules.specs.Layout.{buckets_of};
 ghost use Rattle.rules.specs.Calls.{point_on, own_point};
 ghost use Rattle.text.specs.Text.{decimal, newline, first_line, point_line, lines_to, Given, Judges, Adds, curve_in, refused_in};
 ghost use Rattle.text.specs.Text.{longest_first, longest_point};
 
-use rules::{Point, Pointed, Record, Refusal, Shape, Written};
+use rules::{Point, Record, Refusal, Shape};
 
 // The most bytes that a first line can have, and that the line of a point can have.
 const LONGEST_FIRST: usize = 118;
@@ -22,12 +22,9 @@ fn put(out: &mut [u8], at: usize, text: &[u8]) -> usize
     requires { at + length text.now ≤ length out.old }
     ensures { Adds out.old at text.now out.new result }
 {
-    let mut i: usize = 0;
-    while i < text.len() {
-        out[at + i] = text[i];
-        i += 1;
-    }
-    at + i
+    let end = at + text.len();
+    out[at..end].copy_from_slice(text);
+    end
 }
 
 fn put_number(out: &mut [u8], at: usize, n: u64) -> usize
@@ -92,8 +89,8 @@ fn put_point_line(out: &mut [u8], at: usize, p: Point) -> usize
 // ---- the curve
 
 // A point, for the record's own shape.
-fn point_at(kept: Record, number: u64, counts: &[u64], thresholds: &[u32]) -> Pointed
-    ensures { point_result result ≡ own_point kept number (buckets_of counts.now thresholds.now) }
+fn point_at(kept: Record, number: u64, counts: &[u64], thresholds: &[u32]) -> Result<Point, Refusal>
+    ensures { result_of result ≡ own_point kept number (buckets_of counts.now thresholds.now) }
 {
     let shape = Shape {
         buckets: kept.settings.buckets,
@@ -117,8 +114,8 @@ fn put_point(
     ensures upper_bound { result ≤ at + longest_point }
 {
     match point_at(kept, number, counts, thresholds) {
-        Pointed::At(p) => put_point_line(out, at, p),
-        Pointed::Refused(_) => at,
+        Ok(p) => put_point_line(out, at, p),
+        Err(_) => at,
     }
 }
 
@@ -129,12 +126,9 @@ fn put_points(out: &mut [u8], at: usize, kept: Record, counts: &[u64], threshold
     ensures adds { Adds out.old at (lines_to (kept.settings.buckets + 1) kept (buckets_of counts.now thresholds.now)) out.new result }
     ensures upper_bound { result ≤ at + longest_point * (kept.settings.buckets + 1) }
 {
-    let last = kept.settings.buckets;
     let mut end = at;
-    let mut number: u64 = 0;
-    while number <= last {
+    for number in 0..=kept.settings.buckets {
         end = put_point(out, end, kept, number, counts, thresholds);
-        number += 1;
     }
     end
 }
@@ -148,46 +142,43 @@ fn put_given(
     kept: Record,
     counts: &[u64],
     thresholds: &[u32],
-) -> Written
+) -> Result<usize, Refusal>
     requires { Judges kept (buckets_of counts.now thresholds.now) (gives empty) }
-    ensures { outcome (written_result result) out.new ≡ curve_in kept (buckets_of counts.now thresholds.now) out.old }
+    ensures { outcome (result_of result) out.new ≡ curve_in kept (buckets_of counts.now thresholds.now) out.old }
 {
     let points = kept.settings.buckets as usize + 1;
     if out.len() < LONGEST_FIRST + LONGEST_POINT * points + 4 {
-        return Written::Refused(Refusal::Tables);
+        return Err(Refusal::Tables);
     }
     let first = put_first_line(out, kept);
     if empty {
-        return Written::Filled(put(out, first, b"empty\n"));
+        return Ok(put(out, first, b"empty\n"));
     }
     let last = put_points(out, first, kept, counts, thresholds);
-    Written::Filled(put(out, last, b"end\n"))
+    Ok(put(out, last, b"end\n"))
 }
 
 // Whether a point is refused since there is nothing to report.
 fn is_empty(why: Refusal) -> bool
     ensures { result ≡ eqb (number why) 9 }
 {
-    match why {
-        Refusal::Empty => true,
-        _ => false,
-    }
+    why == Refusal::Empty
 }
 
 // Writes the curve and returns its length. It is refused, and nothing is changed, if the record is torn, a table is too short, a
 // bucket is torn, or the buffer might be too short for a curve with so many buckets.
-pub fn put_curve(out: &mut [u8], kept: Record, counts: &[u64], thresholds: &[u32]) -> Written
-    ensures { outcome (written_result result) out.new ≡ curve_in kept (buckets_of counts.now thresholds.now) out.old }
+pub fn put_curve(
+    out: &mut [u8],
+    kept: Record,
+    counts: &[u64],
+    thresholds: &[u32],
+) -> Result<usize, Refusal>
+    ensures { outcome (result_of result) out.new ≡ curve_in kept (buckets_of counts.now thresholds.now) out.old }
 {
     match point_at(kept, 0, counts, thresholds) {
-        Pointed::At(_) => put_given(out, false, kept, counts, thresholds),
-        Pointed::Refused(why) => {
-            if is_empty(why) {
-                put_given(out, true, kept, counts, thresholds)
-            } else {
-                Written::Refused(why)
-            }
-        }
+        Ok(_) => put_given(out, false, kept, counts, thresholds),
+        Err(why) if is_empty(why) => put_given(out, true, kept, counts, thresholds),
+        Err(why) => Err(why),
     }
 }
 
@@ -196,11 +187,11 @@ const LONGEST_REFUSED: usize = 53;
 
 // Writes the line for a refused event, with the refusal's number and the place of the event's first byte, and returns its length.
 // A buffer of fewer than 53 bytes is refused.
-pub fn put_refused_line(out: &mut [u8], number: u64, place: u64) -> Written
-    ensures { outcome (written_result result) out.new ≡ refused_in number place out.old }
+pub fn put_refused_line(out: &mut [u8], number: u64, place: u64) -> Result<usize, Refusal>
+    ensures { outcome (result_of result) out.new ≡ refused_in number place out.old }
 {
     if out.len() < LONGEST_REFUSED {
-        return Written::Refused(Refusal::Tables);
+        return Err(Refusal::Tables);
     }
-    Written::Filled(put_last_two(out, 0, b"refused ", number, b" at ", place))
+    Ok(put_last_two(out, 0, b"refused ", number, b" at ", place))
 }

@@ -6,14 +6,14 @@ use Rattle.text.proofs.put_curve.Goals as goal
 
 pub put_given-requires : goal.put_given-requires
 put_given-requires c = let a = c.args in
-    rw (← c.in-At.ensures) at (point_judges a.kept (buckets_of a.counts.now a.thresholds.now))
+    rw (← c.in-Ok.ensures) at (point_judges a.kept (buckets_of a.counts.now a.thresholds.now))
 
-pub put_given-requires-then-is_empty : goal.put_given-requires-then-is_empty
-put_given-requires-then-is_empty c = let a = c.args in
-    rw (← c.in-Refused.ensures, sym c.is_empty.ensures ∙ c.if-is_empty.true) at
+pub put_given-requires-in-Err : goal.put_given-requires-in-Err
+put_given-requires-in-Err c = let a = c.args in
+    rw (← c.in-Err.ensures, sym c.is_empty.ensures ∙ c.if-is_empty.true) at
     (point_judges a.kept (buckets_of a.counts.now a.thresholds.now))
 
-pub returns-else-is_empty : goal.returns-else-is_empty
-returns-else-is_empty c = let a = c.args in
-    curve_refused _ (rw (← c.in-Refused.ensures, sym c.is_empty.ensures ∙ c.if-is_empty.false) at
+pub returns-in-Err-2 : goal.returns-in-Err-2
+returns-in-Err-2 c = let a = c.args in
+    curve_refused _ (rw (← c.in-Err.ensures, sym c.is_empty.ensures ∙ c.if-is_empty.false) at
     (point_judges a.kept (buckets_of a.counts.now a.thresholds.now)))

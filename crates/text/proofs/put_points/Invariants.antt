@@ -1,14 +1,9 @@
 -- The loop keeps the lines of the points so far, one behind another, each of at most 63 bytes. None is refused, by `each_given`.
-use Prim.Native.Nat.{◌+◌, ◌-◌, ◌*◌, ◌≤◌}
-use mathlib.Core.Path.{◌≡◌}
-use lib.ListN.{length}
+use Prim.Native.Nat.{◌+◌, ◌*◌, ◌≤◌}
 use Rattle.rules.specs.Layout.{buckets_of}
 use Rattle.text.specs.Text.{lines_to, longest_point, Adds}
 use Rattle.text.proofs.put_points.Given as goal
 
 abbrev pub invariant-loop-number : goal.invariant-loop-number
-invariant-loop-number l = (l.number ≤ l.last + 1) × (length l.out ≡ length l.initial.out) × (l.end ≤ l.at + longest_point * l.number)
+invariant-loop-number l = (l.end ≤ l.at + longest_point * l.number)
     × Adds l.initial.out l.at (lines_to l.number l.kept (buckets_of l.counts l.thresholds)) l.out l.end
-
-abbrev pub decreases-loop-number : goal.decreases-loop-number
-decreases-loop-number l = l.last + 1 - l.number
