@@ -1,9 +1,15 @@
 -- Skipped, or by what `refer` answers.
-use Rattle.apply.proofs.Applying.{one_reference_lem, one_skipped}
+use Rattle.std.proofs.lemmas.Result.{err_from_is_err_and}
+use Rattle.apply.proofs.Applying.{one_accepted, one_refused, one_skipped}
 use Rattle.apply.proofs.refer_one.Goals as goal
 
-pub returns-in-Counted : goal.returns-in-Counted
-returns-in-Counted c = one_skipped _ _ _ _ _ c.in-Counted.ensures
+pub returns-in-Some : goal.returns-in-Some
+returns-in-Some c = one_skipped _ _ _ _ _ c.in-Some.ensures
+
+pub returns-in_err-_reply : goal.returns-in_err-_reply
+returns-in_err-_reply c =
+    let passed = err_from_is_err_and c.from_residual.result c.from_residual.ensures.1 in
+    rw (passed.1, passed.2) (one_refused _ _ c.in_err-_reply.ensures)
 
 pub returns : goal.returns
-returns c = rw c.taken.ensures (one_reference_lem _ _ c.refer.result _ _ _ c.refer.ensures)
+returns c = one_accepted _ _ c.in_ok-_reply.ensures
