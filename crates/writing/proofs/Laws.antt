@@ -4,18 +4,17 @@ use mathlib.Core.Path.{◌≡◌, ◌∙◌}
 use mathlib.Core.List.{List, ◌++◌}
 use lib.ListN.{take, drop, take-append-drop}
 use Rattle.rules.specs.declared.Event.{Event}
-use Rattle.rules.specs.declared.Reading.TheVariants as reading
-use Rattle.rules.specs.declared.Written.TheVariants as written
+use Rattle.std.specs.Prelude.{Ok}
 use Rattle.rules.specs.Answers.{gives}
 use Rattle.rules.specs.Events.{event_bytes, read_of}
-use Rattle.rules.proofs.Answers.{reading_injective}
+use Rattle.rules.proofs.Answers.{result_injective}
 use Rattle.rules.proofs.Events.{write_filled}
 use Rattle.rules.proofs.Tables.{over_front}
 use Rattle.rules.proofs.Round.{round}
 use Rattle.writing.specs.ReadBack.{WritePromise, WrittenIsRead}
 
 -- bytes that begin with those that were filled
-pub reads_back : (e : Event) (before after : List ℕ) (n : ℕ) → WritePromise e before (written.Filled n) after
+pub reads_back : (e : Event) (before after : List ℕ) (n : ℕ) → WritePromise e before (Ok n) after
     → (bytes : List ℕ) → take n bytes ≡ take n after → read_of bytes ≡ gives (record { event = e; taken = n })
 reads_back e before after n (w, fits) bytes begins =
     let k = write_filled e before n after w in
@@ -25,4 +24,4 @@ reads_back e before after n (w, fits) bytes begins =
 
 pub written_is_read : WrittenIsRead
 written_is_read e before after n w bytes begins r said =
-    reading_injective r (reading.Got e n) (said ∙ reads_back e before after n w bytes begins)
+    result_injective r (Ok (record { event = e; taken = n })) (said ∙ reads_back e before after n w bytes begins)

@@ -3,48 +3,48 @@
 
 ghost use Rattle.std.specs.Prelude.{◌≡◌, ◌≤◌, length};
 ghost use Rattle.std.proofs.lemmas.List.Edits.{sets};
-ghost use Rattle.rules.specs.Answers.{written_result};
+ghost use Rattle.rules.specs.Answers.{result_of};
 ghost use Rattle.rules.specs.Order.{outcome};
 ghost use Rattle.rules.specs.Events.{event_bytes, event_length, overruns, write_of, Fits};
 
 use rules::{
-    Event, LOCATION_BYTES, RESTART_BYTES, Refusal, SETUP_BYTES, SPAN_BYTES, SetupBody, Written,
+    Event, Kind, LOCATION_BYTES, RESTART_BYTES, Refusal, SETUP_BYTES, SPAN_BYTES, SetupBody,
 };
 
 fn put_location(buffer: &mut [u8], location: u64)
     requires { 9 ≤ length buffer.old }
     ensures { buffer.new ≡ sets buffer.old 0 (event_bytes (Event.Location location)) }
 {
-    little_endian::put_one(buffer, 0, 1);
-    little_endian::put_eight(buffer, 1, location);
+    buffer[0] = u8::from(Kind::Location);
+    little_endian::put::<8>(buffer, 1, location);
 }
 
 fn put_span(buffer: &mut [u8], offset: u64, bytes: u32)
     requires { 13 ≤ length buffer.old }
     ensures { buffer.new ≡ sets buffer.old 0 (event_bytes (Event.Span offset bytes)) }
 {
-    little_endian::put_one(buffer, 0, 2);
-    little_endian::put_eight(buffer, 1, offset);
-    little_endian::put_four(buffer, 9, bytes);
+    buffer[0] = u8::from(Kind::Span);
+    little_endian::put::<8>(buffer, 1, offset);
+    little_endian::put::<4>(buffer, 9, u64::from(bytes));
 }
 
 fn put_restart(buffer: &mut [u8])
     requires { 1 ≤ length buffer.old }
     ensures { buffer.new ≡ sets buffer.old 0 (event_bytes Event.Restart) }
 {
-    little_endian::put_one(buffer, 0, 3);
+    buffer[0] = u8::from(Kind::Restart);
 }
 
 fn put_setup(buffer: &mut [u8], body: SetupBody)
     requires { 18 ≤ length buffer.old }
     ensures { buffer.new ≡ sets buffer.old 0 (event_bytes (Event.Setup body)) }
 {
-    little_endian::put_one(buffer, 0, 4);
-    little_endian::put_four(buffer, 1, body.limit);
-    little_endian::put_four(buffer, 5, body.start);
-    little_endian::put_four(buffer, 9, body.width);
-    little_endian::put_four(buffer, 13, body.buckets);
-    little_endian::put_one(buffer, 17, body.kind);
+    buffer[0] = u8::from(Kind::Setup);
+    little_endian::put::<4>(buffer, 1, u64::from(body.limit));
+    little_endian::put::<4>(buffer, 5, u64::from(body.start));
+    little_endian::put::<4>(buffer, 9, u64::from(body.width));
+    little_endian::put::<4>(buffer, 13, u64::from(body.buckets));
+    little_endian::put::<1>(buffer, 17, u64::from(body.kind));
 }
 
 fn put(buffer: &mut [u8], event: Event)
@@ -65,10 +65,7 @@ fn size(event: Event) -> usize
 {
     match event {
         Event::Location(_) => LOCATION_BYTES,
-        Event::Span {
-            offset: _,
-            length: _,
-        } => SPAN_BYTES,
+        Event::Span { .. } => SPAN_BYTES,
         Event::Restart => RESTART_BYTES,
         Event::Setup(_) => SETUP_BYTES,
     }
@@ -80,25 +77,23 @@ fn overruns(event: Event) -> bool
 {
     match event {
         Event::Span { offset, length } => judge::overruns(offset, length),
-        Event::Location(_) => false,
-        Event::Restart => false,
-        Event::Setup(_) => false,
+        _ => false,
     }
 }
 
 // Writes the event to the front of the buffer, filling exactly its length, and returns that length. The event's numbers fit their types,
 // as those of any event do; the promise says so, so that what is written is known to be read back.
-pub fn write(event: Event, buffer: &mut [u8]) -> Written
-    ensures buffer_after { outcome (written_result result) buffer.new ≡ write_of event buffer.old }
+pub fn write(event: Event, buffer: &mut [u8]) -> Result<usize, Refusal>
+    ensures buffer_after { outcome (result_of result) buffer.new ≡ write_of event buffer.old }
     ensures fits { Fits event }
 {
     if overruns(event) {
-        return Written::Refused(Refusal::Overrun);
+        return Err(Refusal::Overrun);
     }
     let filled = size(event);
     if buffer.len() < filled {
-        return Written::Refused(Refusal::Tables);
+        return Err(Refusal::Tables);
     }
     put(buffer, event);
-    Written::Filled(filled)
+    Ok(filled)
 }
