@@ -2,24 +2,24 @@
 -- induction on a bound of their number, which does not matter once it is as large as the bytes (`to_enough`). Assumes nothing.
 use Prim.Native.Nat.{ℕ, zero, suc, ◌+◌, ◌≤◌, ◌<◌}
 use mathlib.Core.Path.{◌≡◌, refl, sym, ap, ◌∙◌}
+use mathlib.Core.Bool.{true, false}
 use mathlib.Core.List.{List, [], ◌∷◌, map}
 use native.Mathlib.Nat.{zero-add, add-zero}
 use native.Mathlib.Omega.{arith}
 use lib.ListN.{length, drop, length-drop, drop_of_length-le}
 use lib.Seq.{drop-drop}
 use denote.Ref.{Bor}
-use Rattle.rules.specs.declared.Event.{Event}
 use Rattle.rules.specs.declared.Refusal.{Refusal}
-use Rattle.rules.specs.declared.Reading.TheVariants as reading
-use Rattle.rules.specs.Answers.{Result, refused, gives, number, reading_result}
+use Rattle.std.specs.Prelude.{Ok, Err}
+use Rattle.std.specs.Result.{is_ok}
+use Rattle.std.specs.declared.result.Result as told
+use Rattle.rules.specs.Answers.{Result, refused, gives, number}
 use Rattle.rules.specs.declared.Got.{Got}
 use Rattle.rules.specs.Events.{read_of, unread_after, unread_of}
-use Rattle.rules.proofs.Events.{got, read_empty, taken}
+use Rattle.rules.proofs.Events.{read_empty, taken}
 use Rattle.reader.specs.declared.Reader.{Reader}
-use Rattle.reader.specs.declared.Moved.{Moved}
-use Rattle.reader.specs.declared.Advanced.{Advanced}
-use Rattle.reader.specs.Reader.{left_at, read_at, past, place_after, step_at, advanced_result, at_front}
-use Rattle.reader.specs.Reader.{next_of, moved_result, whole_to, whole_of, taken_by, front_of, steps, readings}
+use Rattle.reader.specs.Reader.{left_at, read_at, past, place_after, at_front}
+use Rattle.reader.specs.Reader.{next_of, moved, whole_to, whole_of, taken_by, front_of, steps, readings}
 
 -- ---- a place at the end of the bytes or beyond it
 
@@ -44,9 +44,9 @@ left_after bytes at = after_reading_lem (read_at bytes at)
     after_reading_lem (gives g) = sym (drop-drop g.taken at bytes)
 
 -- the same by the promise of `next` alone
-pub moved_left : (r : Reader) (m : Moved) → moved_result m ≡ next_of r
-    → left_at m.reader.src.now m.reader.at ≡ unread_of (left_at r.src.now r.at)
-moved_left r m k = ap (λ z. left_at z.reader.src.now z.reader.at) k ∙ left_after r.src.now r.at
+pub moved_left : (r : Reader) (answer : told.Result Got Refusal) (after : Reader) → moved answer after ≡ next_of r
+    → left_at after.src.now after.at ≡ unread_of (left_at r.src.now r.at)
+moved_left r answer after k = ap (λ z. left_at z.reader.src.now z.reader.at) k ∙ left_after r.src.now r.at
 
 -- a reader's steps say what reading says of what is left, with the unread part taken again and again
 pub steps_read : (n : ℕ) (r : Reader) → steps n r ≡ readings n (left_at r.src.now r.at)
@@ -124,32 +124,30 @@ Counted bytes events at =
 pub counted_none : (bytes : List ℕ) → Counted bytes 0 0
 counted_none bytes = (zero-add _, zero-add _, omega arith, omega arith)
 
-module _ (bytes : List ℕ) (events at : ℕ) (counted : Counted bytes events at) (s : Advanced) (step : advanced_result s ≡ step_at bytes at) where
+module _ (r : Reader) (events : ℕ) (counted : Counted r.src.now events r.at) where
   -- a refusal ends the count
-  pub counted_all : (r : Refusal) → s.reading ≡ reading.Refused r → record { events = events; at = at } ≡ front_of bytes
-  counted_all r is =
-      let none = whole_refused (left_at bytes at) (number r) (sym (ap (λ z. z.result) step) ∙ ap reading_result is) in
-      let count : events ≡ length (whole_of bytes) = sym (add-zero events) ∙ rw none at counted.0 in
-      let place : at ≡ taken_by (whole_of bytes) = sym (add-zero at) ∙ rw none at counted.1 in
-      rw (← count, ← place)
+  pub counted_all : (answer : told.Result Got Refusal) (after : Reader) → moved answer after ≡ next_of r → false ≡ is_ok answer
+      → record { events = events; at = after.at } ≡ front_of r.src.now
+  counted_all (Ok g) after step e = absurd (cc)
+  counted_all (Err why) after step e =
+      let refused_at : read_at r.src.now r.at ≡ refused (number why) = sym (ap (λ z. z.result) step) in
+      let none = whole_refused (left_at r.src.now r.at) (number why) refused_at in
+      let count : events ≡ length (whole_of r.src.now) = sym (add-zero events) ∙ rw none at counted.0 in
+      let place : r.at ≡ taken_by (whole_of r.src.now) = sym (add-zero r.at) ∙ rw none at counted.1 in
+      let stays : after.at ≡ r.at = ap (λ z. z.reader.at) step ∙ rw refused_at in
+      rw (stays, ← count, ← place)
 
-  module _ (e : Event) (n : ℕ) (is : s.reading ≡ reading.Got e n) where
-    got_at : read_at bytes at ≡ got e n
-    got_at = sym (ap (λ z. z.result) step) ∙ ap reading_result is
-
-    past_at : s.at ≡ at + n
-    past_at = ap (λ z. z.at) step ∙ rw got_at
-
-    -- an event leads on, within the bytes
-    pub counted_ahead : (at < s.at) × (s.at ≤ length bytes)
-    counted_ahead =
-        let t = simp length-drop at (taken (left_at bytes at) got_at) in
-        omega (arith, past_at)
-
-    pub counted_more : Counted bytes (events + 1) s.at
-    counted_more =
-        let one = whole_gives (left_at bytes at) _ got_at in
-        let left : left_at bytes s.at ≡ drop n (left_at bytes at) = rw past_at (sym (drop-drop n at bytes)) in
-        let count = rw one at counted.0 in
-        let place = rw one at counted.1 in
-        (rw left (omega arith), rw (left, past_at) (omega arith), omega (arith, counted_ahead), counted_ahead.1)
+  -- an event leads on, within the bytes, and is counted
+  pub counted_more : (answer : told.Result Got Refusal) (after : Reader) → moved answer after ≡ next_of r → true ≡ is_ok answer
+      → (after.src.now ≡ r.src.now) × (r.at < after.at) × Counted after.src.now (events + 1) after.at
+  counted_more (Err why) after step e = absurd (cc)
+  counted_more (Ok g) after step e =
+      let got_at : read_at r.src.now r.at ≡ gives g = sym (ap (λ z. z.result) step) in
+      let same : after.src.now ≡ r.src.now = ap (λ z. z.reader.src.now) step in
+      let past_at : after.at ≡ r.at + g.taken = ap (λ z. z.reader.at) step ∙ rw got_at in
+      let t = simp length-drop at (taken (left_at r.src.now r.at) got_at) in
+      let one = whole_gives (left_at r.src.now r.at) g got_at in
+      let left : left_at r.src.now after.at ≡ drop g.taken (left_at r.src.now r.at) = rw past_at (sym (drop-drop g.taken r.at r.src.now)) in
+      let count = rw one at counted.0 in
+      let place = rw one at counted.1 in
+      (same, omega arith, rw same (rw left (omega arith), rw (left, past_at) (omega arith), omega arith, omega arith))

@@ -4,22 +4,23 @@ use Prim.Native.Nat.{ℕ}
 use mathlib.Core.List.{List}
 use denote.Ref.{Bor}
 use Rattle.rules.specs.Layout.{part, tail_of}
-use Rattle.rules.proofs.Answers.{reading_injective}
+use Rattle.std.specs.declared.result.Result as told
+use Rattle.rules.specs.declared.Got.{Got}
+use Rattle.rules.specs.declared.Refusal.{Refusal}
+use Rattle.rules.proofs.Answers.{result_injective}
 use Rattle.rules.proofs.Tables.{part_injective}
 use Rattle.reader.specs.declared.Reader.{Reader}
-use Rattle.reader.specs.declared.Moved.{Moved}
 use Rattle.reader.specs.declared.Front.{Front}
-use Rattle.reader.specs.Reader.{left_at, at_front, next_of, moved_result, front_of}
+use Rattle.reader.specs.Reader.{left_at, at_front, next_of, moved, front_of}
 
 pub new_once : (src : Bor (List ℕ)) (a b : Reader) → a ≡ at_front src → b ≡ at_front src → a ≡ b
 new_once src a b p q = p ∙ sym q
 
-pub next_once : (r : Reader) (a b : Moved) → moved_result a ≡ next_of r → moved_result b ≡ next_of r → a ≡ b
-next_once r a b p q =
-    let k = p ∙ sym q in
-    let reading = reading_injective a.reading b.reading (ap (λ z. z.result) k) in
-    let reader = ap (λ z. z.reader) k in
-    λ i. record { reading = reading i; reader = reader i }
+pub next_once : (r : Reader) (a b : told.Result Got Refusal) (afterA afterB : Reader)
+    → moved a afterA ≡ next_of r → moved b afterB ≡ next_of r → (a ≡ b) × (afterA ≡ afterB)
+next_once r a b afterA afterB p q =
+    let same = p ∙ sym q in
+    (result_injective a b (ap (λ z. z.result) same), ap (λ z. z.reader) same)
 
 -- the part that is handed back: where it stands, and its bytes
 pub left_once : (r : Reader) (a b : Bor (List ℕ)) → part a ≡ tail_of r.src (left_at r.src.now r.at)

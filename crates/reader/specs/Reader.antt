@@ -1,12 +1,12 @@
 -- The reader, in terms of the rules of reading. Document 01, "Trace events". Assumes nothing.
 use Rattle.std.specs.Prelude.{ℕ, zero, suc, ◌+◌, List, [], ◌∷◌, length, drop}
 use Rattle.std.specs.Borrow.{Bor}
-use Rattle.rules.specs.Answers.{Result, refused, gives, reading_result}
+use Rattle.std.specs.declared.result.Result as told
+use Rattle.rules.specs.declared.Refusal.{Refusal}
+use Rattle.rules.specs.Answers.{Result, refused, gives, result_of}
 use Rattle.rules.specs.declared.Got.{Got}
 use Rattle.rules.specs.Events.{read_of, unread_of}
 use Rattle.reader.specs.declared.Reader.{Reader}
-use Rattle.reader.specs.declared.Moved.{Moved}
-use Rattle.reader.specs.declared.Advanced.{Advanced}
 use Rattle.reader.specs.declared.Front.{Front}
 
 -- the bytes from a place on: none, if the place is past the end
@@ -25,17 +25,6 @@ past at (gives g) = at + g.taken
 abbrev pub place_after : (bytes : List ℕ) (at : ℕ) → ℕ
 place_after bytes at = past at (read_at bytes at)
 
--- a step over plain bytes: the reading at a place, and the place after it
-pub record Advancing : Type 0 where
-  pub result : Result Got
-  pub at : ℕ
-
-abbrev pub step_at : (bytes : List ℕ) (at : ℕ) → Advancing
-step_at bytes at = record { result = read_at bytes at; at = place_after bytes at }
-
-abbrev pub advanced_result : Advanced → Advancing
-advanced_result s = record { result = reading_result s.reading; at = s.at }
-
 -- a reader at the front of the bytes
 abbrev pub at_front : Bor (List ℕ) → Reader
 at_front src = record { src = src; at = 0 }
@@ -48,8 +37,8 @@ pub record Moving : Type 0 where
 abbrev pub next_of : Reader → Moving
 next_of r = record { result = read_at r.src.now r.at; reader = record { src = r.src; at = place_after r.src.now r.at } }
 
-abbrev pub moved_result : Moved → Moving
-moved_result n = record { result = reading_result n.reading; reader = n.reader }
+abbrev pub moved : told.Result Got Refusal → Reader → Moving
+moved answer after = record { result = result_of answer; reader = after }
 
 -- an event and those that follow it; none, if it is refused
 abbrev pub before : Result Got → List Got → List Got
