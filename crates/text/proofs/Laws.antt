@@ -19,7 +19,8 @@ use Rattle.rules.specs.Settings.{Histogram}
 use Rattle.rules.specs.Calls.{point_on}
 use Rattle.rules.proofs.Tests.{cases}
 use Rattle.io.specs.Digits.{last_digits, IsDigitCount}
-use Rattle.text.specs.Text.{decimal_most, decimal, point_line, lines_to, Adds}
+use Rattle.text.specs.declared.Page.{Page}
+use Rattle.text.specs.Text.{decimal_most, decimal, point_line, lines_to, Adds, Puts}
 
 -- ---- one text behind another
 
@@ -33,25 +34,44 @@ adds_then {a} {b} {c} {t} {u} {i} {j} {k} p q =
       fits = q.fits;
     }
 
--- a text put over the bytes behind the first `at`
-pub adds_put : (out text : List ℕ) (at : ℕ) → at + length text ≤ length out
-    → Adds out at text (put_mid at (at + length text - at) out text) (at + length text)
-adds_put out text at h = record {
-  front = take-put_mid at (at + length text - at) out text (at + length text) refl (omega arith);
-  behind = drop-put_mid at (at + length text - at) out text (at + length text) (omega arith) (omega arith) (omega arith);
-  ends = refl;
-  fits = rw (same_len_mid at (at + length text - at) out text (omega (arith, length-take (at + length text - at) (drop at out), length-drop at out))) h;
+pub puts_then : {a b c : Page} {t u : List ℕ} → Puts a t b → Puts b u c → Puts a (t ++ u) c
+puts_then p q = record {
+  same_buffer = q.same_buffer ∙ p.same_buffer;
+  same_length = q.same_length ∙ p.same_length;
+  adds = adds_then p.adds q.adds;
 }
 
--- the lines of no points, and of one point more
-pub lines_none : (out : List ℕ) (at : ℕ) (kept : Record) (g : Histogram) → at ≤ length out → Adds out at (lines_to 0 kept g) out at
-unfolding lines_to
-lines_none out at kept g h = record { front = sym (append-nil (take at out)); behind = refl; ends = sym (add-zero at); fits = h }
+-- the buffer is left as the page holds it
+pub left_so : {before text now final : List ℕ} {at end : ℕ} → Adds before at text now end → final ≡ now → Adds before at text final end
+left_so a e = rw e a
 
-pub lines_more : {a b c : List ℕ} {i j k : ℕ} (n : ℕ) (kept : Record) (g : Histogram)
-    → Adds a i (lines_to n kept g) b j → Adds b j (point_line (point_on kept n g)) c k → Adds a i (lines_to (n + 1) kept g) c k
+-- a text put over the bytes behind the first `at`
+module _ (out text : List ℕ) (at : ℕ) (h : at + length text ≤ length out) where
+  pub put_length : length (put_mid at (at + length text - at) out text) ≡ length out
+  put_length =
+      same_len_mid at (at + length text - at) out text (omega (arith, length-take (at + length text - at) (drop at out), length-drop at out))
+
+  pub adds_put : Adds out at text (put_mid at (at + length text - at) out text) (at + length text)
+  adds_put = record {
+    front = take-put_mid at (at + length text - at) out text (at + length text) refl (omega arith);
+    behind = drop-put_mid at (at + length text - at) out text (at + length text) (omega arith) (omega arith) (omega arith);
+    ends = refl;
+    fits = rw put_length h;
+  }
+
+-- the lines of no points, and of one point more
+pub lines_none : (page : Page) (kept : Record) (g : Histogram) → page.filled ≤ length page.out.now → Puts page (lines_to 0 kept g) page
 unfolding lines_to
-lines_more n kept g p q = rw (add-one n) (adds_then p q)
+lines_none page kept g h = record {
+  same_buffer = refl;
+  same_length = refl;
+  adds = record { front = sym (append-nil (take page.filled page.out.now)); behind = refl; ends = sym (add-zero page.filled); fits = h };
+}
+
+pub lines_more : {a b c : Page} (n : ℕ) (kept : Record) (g : Histogram)
+    → Puts a (lines_to n kept g) b → Puts b (point_line (point_on kept n g)) c → Puts a (lines_to (n + 1) kept g) c
+unfolding lines_to
+lines_more n kept g p q = rw (add-one n) (puts_then p q)
 
 -- a text behind nothing stands over the front
 pub over_all : {before text after : List ℕ} {n : ℕ} → Adds before 0 text after n → after ≡ over text before

@@ -3,6 +3,7 @@ use Rattle.std.specs.Prelude.{ℕ, zero, suc, ◌+◌, ◌*◌, ◌/◌, ◌%◌
 use Rattle.rules.specs.declared.Record.{Record}
 use Rattle.rules.specs.declared.Point.{Point}
 use Rattle.rules.specs.declared.Refusal.TheVariants as refusal
+use Rattle.text.specs.declared.Page.{Page}
 use Rattle.rules.specs.Lists.{over}
 use Rattle.rules.specs.Settings.{Histogram}
 use Rattle.rules.specs.Curve.{total_of}
@@ -123,6 +124,12 @@ pub record Adds (before : List ℕ) (at : ℕ) (text after : List ℕ) (end : �
   pub behind : drop end after ≡ drop end before
   pub ends : end ≡ at + length text
   pub fits : end ≤ length after
+
+-- a page holds the same buffer as before, as long as it was, with a text behind what stood in it
+pub record Puts (before : Page) (text : List ℕ) (after : Page) : Type 0 where
+  pub same_buffer : after.out.ghost_name ≡ before.out.ghost_name
+  pub same_length : length after.out.now ≡ length before.out.now
+  pub adds : Adds before.out.now before.filled text after.out.now after.filled
 
 -- no first line is longer, numbers having at most 20 digits
 abbrev pub longest_first : ℕ

@@ -6,7 +6,7 @@ ghost use Rattle.rules.specs.Answers.{gives, number, result_of};
 ghost use Rattle.rules.specs.Order.{outcome};
 ghost use Rattle.rules.specs.Layout.{buckets_of};
 ghost use Rattle.rules.specs.Calls.{point_on, own_point};
-ghost use Rattle.text.specs.Text.{decimal, newline, first_line, point_line, lines_to, Given, Judges, Adds, curve_in, refused_in};
+ghost use Rattle.text.specs.Text.{decimal, first_line, point_line, lines_to, Given, Judges, Puts, curve_in, refused_in};
 ghost use Rattle.text.specs.Text.{longest_first, longest_point};
 
 use rules::{Point, Record, Refusal, Shape};
@@ -16,74 +16,93 @@ const LONGEST_FIRST: usize = 118;
 
 const LONGEST_POINT: usize = 63;
 
-// ---- text in a buffer, after its first `at` bytes
+// ---- text in a buffer
 
-fn put(out: &mut [u8], at: usize, text: &[u8]) -> usize
-    requires { at + length text.now ≤ length out.old }
-    ensures { Adds out.old at text.now out.new result }
-{
-    let end = at + text.len();
-    out[at..end].copy_from_slice(text);
-    end
+// A buffer, and how many bytes of text stand at its front. It is no `fmt::Write`: no clause of `write!` says that it succeeds, and
+// a curve that has room is never refused.
+#[derive(Drop)]
+struct Page<'a> {
+    out: &'a mut [u8],
+    filled: usize,
 }
 
-fn put_number(out: &mut [u8], at: usize, n: u64) -> usize
-    requires { at + 20 ≤ length out.old }
-    ensures adds { Adds out.old at (decimal n) out.new result }
-    ensures upper_bound { result ≤ at + 20 }
-{
-    let mut digits = [0u8; 20];
-    let count = io::decimal(n, &mut digits);
-    put(out, at, &digits[..count])
-}
+impl<'a> Page<'a> {
+    fn put(&mut self, text: &[u8])
+        requires { self.old.filled + length text.now ≤ length self.old.out.now }
+        ensures { Puts self.old text.now self.new }
+    {
+        let end = self.filled + text.len();
+        self.out[self.filled..end].copy_from_slice(text);
+        self.filled = end;
+    }
 
-fn put_both(out: &mut [u8], at: usize, word: &[u8], n: u64) -> usize
-    requires { at + length word.now + 20 ≤ length out.old }
-    ensures adds { Adds out.old at (word.now ++ decimal n) out.new result }
-    ensures upper_bound { result ≤ at + length word.now + 20 }
-{
-    let after = put(out, at, word);
-    put_number(out, after, n)
-}
+    fn put_number(&mut self, n: u64)
+        requires { self.old.filled + 20 ≤ length self.old.out.now }
+        ensures puts { Puts self.old (decimal n) self.new }
+        ensures upper_bound { self.new.filled ≤ self.old.filled + 20 }
+    {
+        let mut digits = [0u8; 20];
+        let count = io::decimal(n, &mut digits);
+        self.put(&digits[..count]);
+    }
 
-// The last two numbers of a line, each after its word, and the newline.
-fn put_last_two(out: &mut [u8], at: usize, word: &[u8], n: u64, other: &[u8], m: u64) -> usize
-    requires { at + length word.now + length other.now + 41 ≤ length out.old }
-    ensures adds { Adds out.old at
-        ((word.now ++ decimal n) ++ ((other.now ++ decimal m) ++ newline)) out.new result }
-    ensures upper_bound { result ≤ at + length word.now + length other.now + 41 }
-{
-    let one = put_both(out, at, word, n);
-    let two = put_both(out, one, other, m);
-    put(out, two, b"\n")
-}
+    fn put_both(&mut self, word: &[u8], n: u64)
+        requires { self.old.filled + length word.now + 20 ≤ length self.old.out.now }
+        ensures puts { Puts self.old (word.now ++ decimal n) self.new }
+        ensures upper_bound { self.new.filled ≤ self.old.filled + length word.now + 20 }
+    {
+        self.put(word);
+        self.put_number(n);
+    }
 
-// The first line: references, sampled references, threshold and live number.
-fn put_first_line(out: &mut [u8], kept: Record) -> usize
-    requires { longest_first ≤ length out.old }
-    ensures adds { Adds out.old 0 (first_line kept) out.new result }
-    ensures upper_bound { result ≤ longest_first }
-{
-    let references = put_both(out, 0, b"curve refs ", kept.numbers.references);
-    let sampled = put_both(out, references, b" sampled ", kept.numbers.sampled);
-    put_last_two(
-        out,
-        sampled,
-        b" threshold ",
-        kept.threshold,
-        b" live ",
-        kept.live,
-    )
-}
+    // The first line: references, sampled references, threshold and live number.
+    fn put_first_line(&mut self, kept: Record)
+        requires { self.old.filled + longest_first ≤ length self.old.out.now }
+        ensures puts { Puts self.old (first_line kept) self.new }
+        ensures upper_bound { self.new.filled ≤ self.old.filled + longest_first }
+    {
+        self.put_both(b"curve refs ", kept.numbers.references);
+        self.put_both(b" sampled ", kept.numbers.sampled);
+        self.put_both(b" threshold ", kept.threshold);
+        self.put_both(b" live ", kept.live);
+        self.put(b"\n");
+    }
 
-// The line of a point: size, misses and total.
-fn put_point_line(out: &mut [u8], at: usize, p: Point) -> usize
-    requires { at + longest_point ≤ length out.old }
-    ensures adds { Adds out.old at (point_line p) out.new result }
-    ensures upper_bound { result ≤ at + longest_point }
-{
-    let size = put_number(out, at, p.size);
-    put_last_two(out, size, b" ", p.misses, b" ", p.total)
+    // The line of a point: size, misses and total.
+    fn put_point_line(&mut self, p: Point)
+        requires { self.old.filled + longest_point ≤ length self.old.out.now }
+        ensures puts { Puts self.old (point_line p) self.new }
+        ensures upper_bound { self.new.filled ≤ self.old.filled + longest_point }
+    {
+        self.put_number(p.size);
+        self.put_both(b" ", p.misses);
+        self.put_both(b" ", p.total);
+        self.put(b"\n");
+    }
+
+    // The line of a point that is not refused.
+    fn put_point(&mut self, kept: Record, number: u64, counts: &[u64], thresholds: &[u32])
+        requires longest_point_in_bounds { self.old.filled + longest_point ≤ length self.old.out.now }
+        requires given { Given kept number (buckets_of counts.now thresholds.now) }
+        ensures puts { Puts self.old (point_line (point_on kept number (buckets_of counts.now thresholds.now))) self.new }
+        ensures upper_bound { self.new.filled ≤ self.old.filled + longest_point }
+    {
+        if let Ok(p) = point_at(kept, number, counts, thresholds) {
+            self.put_point_line(p);
+        }
+    }
+
+    // One line for each point, 0 to B.
+    fn put_points(&mut self, kept: Record, counts: &[u64], thresholds: &[u32])
+        requires buckets_in_bounds { self.old.filled + longest_point * (kept.settings.buckets + 1) ≤ length self.old.out.now }
+        requires judges { Judges kept (buckets_of counts.now thresholds.now) (gives false) }
+        ensures puts { Puts self.old (lines_to (kept.settings.buckets + 1) kept (buckets_of counts.now thresholds.now)) self.new }
+        ensures upper_bound { self.new.filled ≤ self.old.filled + longest_point * (kept.settings.buckets + 1) }
+    {
+        for number in 0..=kept.settings.buckets {
+            self.put_point(kept, number, counts, thresholds);
+        }
+    }
 }
 
 // ---- the curve
@@ -97,40 +116,6 @@ fn point_at(kept: Record, number: u64, counts: &[u64], thresholds: &[u32]) -> Re
         width: kept.settings.width,
     };
     points::point(kept, shape, number, counts, thresholds)
-}
-
-// The line of a point that is not refused.
-fn put_point(
-    out: &mut [u8],
-    at: usize,
-    kept: Record,
-    number: u64,
-    counts: &[u64],
-    thresholds: &[u32],
-) -> usize
-    requires longest_point_in_bounds { at + longest_point ≤ length out.old }
-    requires given { Given kept number (buckets_of counts.now thresholds.now) }
-    ensures adds { Adds out.old at (point_line (point_on kept number (buckets_of counts.now thresholds.now))) out.new result }
-    ensures upper_bound { result ≤ at + longest_point }
-{
-    match point_at(kept, number, counts, thresholds) {
-        Ok(p) => put_point_line(out, at, p),
-        Err(_) => at,
-    }
-}
-
-// One line for each point, 0 to B.
-fn put_points(out: &mut [u8], at: usize, kept: Record, counts: &[u64], thresholds: &[u32]) -> usize
-    requires buckets_in_bounds { at + longest_point * (kept.settings.buckets + 1) ≤ length out.old }
-    requires judges { Judges kept (buckets_of counts.now thresholds.now) (gives false) }
-    ensures adds { Adds out.old at (lines_to (kept.settings.buckets + 1) kept (buckets_of counts.now thresholds.now)) out.new result }
-    ensures upper_bound { result ≤ at + longest_point * (kept.settings.buckets + 1) }
-{
-    let mut end = at;
-    for number in 0..=kept.settings.buckets {
-        end = put_point(out, end, kept, number, counts, thresholds);
-    }
-    end
 }
 
 // ---- at the front of a buffer
@@ -150,12 +135,15 @@ fn put_given(
     if out.len() < LONGEST_FIRST + LONGEST_POINT * points + 4 {
         return Err(Refusal::Tables);
     }
-    let first = put_first_line(out, kept);
+    let mut page = Page { out, filled: 0 };
+    page.put_first_line(kept);
     if empty {
-        return Ok(put(out, first, b"empty\n"));
+        page.put(b"empty\n");
+        return Ok(page.filled);
     }
-    let last = put_points(out, first, kept, counts, thresholds);
-    Ok(put(out, last, b"end\n"))
+    page.put_points(kept, counts, thresholds);
+    page.put(b"end\n");
+    Ok(page.filled)
 }
 
 // Whether a point is refused since there is nothing to report.
@@ -193,5 +181,9 @@ pub fn put_refused_line(out: &mut [u8], number: u64, place: u64) -> Result<usize
     if out.len() < LONGEST_REFUSED {
         return Err(Refusal::Tables);
     }
-    Ok(put_last_two(out, 0, b"refused ", number, b" at ", place))
+    let mut page = Page { out, filled: 0 };
+    page.put_both(b"refused ", number);
+    page.put_both(b" at ", place);
+    page.put(b"\n");
+    Ok(page.filled)
 }

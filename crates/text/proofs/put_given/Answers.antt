@@ -1,7 +1,8 @@
 -- Nothing refuses the curve, so its room decides. Where it has room, the first line stands at the front, and behind it `empty`, or the points
 -- and `end`.
+use borrow.Author.Rules.{rules}
 use native.Mathlib.Omega.{arith}
-use Rattle.text.proofs.Laws.{adds_then}
+use Rattle.text.proofs.Laws.{puts_then, left_so}
 use Rattle.text.proofs.Curves.{judged_as, few_buckets, curve_short, empty_curve, points_curve}
 use Rattle.text.proofs.put_given.Goals as goal
 
@@ -19,9 +20,12 @@ returns-then-out-points c = curve_short _ c.requires c.if-out-points.true
 
 pub returns-then-empty : goal.returns-then-empty
 returns-then-empty c =
-    empty_curve _ c.if-out-points.false (judged_as c.requires c.if-empty.true) (adds_then c.put_first_line-first.ensures.adds c.put.ensures)
+    let text = puts_then c.put_first_line.ensures.puts c.put.ensures in
+    let same = text.same_buffer in
+    empty_curve _ c.if-out-points.false (judged_as c.requires c.if-empty.true) (left_so text.adds (search rules))
 
 pub returns : goal.returns
 returns c =
-    points_curve _ c.if-out-points.false (judged_as c.requires c.if-empty.false)
-    (adds_then c.put_first_line-first.ensures.adds (adds_then c.put_points-last.ensures.adds c.put-2.ensures))
+    let text = puts_then c.put_first_line.ensures.puts (puts_then c.put_points.ensures.puts c.put-2.ensures) in
+    let same = text.same_buffer in
+    points_curve _ c.if-out-points.false (judged_as c.requires c.if-empty.false) (left_so text.adds (search rules))
