@@ -74,19 +74,12 @@ pub fn read(bytes: &[u8]) -> Result<Got, Refusal>
     }
 }
 
-fn rest(bytes: &[u8], at: usize) -> &[u8]
-    requires { at ≤ length bytes.now }
-    ensures { part result ≡ tail_of bytes.entry (drop at bytes.now) }
-{
-    &bytes[at..]
-}
-
 // What follows the first event, or all of the bytes if that event is refused, as a slice of the caller's own bytes.
 pub fn unread(bytes: &[u8]) -> &[u8]
     ensures { part result ≡ tail_of bytes.entry (unread_of bytes.now) }
 {
     match read(bytes) {
-        Ok(got) => rest(bytes, got.taken),
-        Err(_) => rest(bytes, 0),
+        Ok(got) => &bytes[got.taken..],
+        Err(_) => bytes,
     }
 }
