@@ -7,6 +7,7 @@ ghost use Rattle.rules.specs.Settings.{shift_step, finaliser, hash_of};
 use rules::{FULL_RATE, Hashing};
 
 // x * m modulo 2^64, from 32-bit halves. Only the lower halves of the two middle products count, and the highest product not at all.
+#[tactic(auto, using(crate::proofs::Product::halves))]
 pub fn times(x: u64, m: u64) -> u64
     ensures { result ≡ x * m % 2 ^ 64 }
 {
@@ -20,6 +21,7 @@ pub fn times(x: u64, m: u64) -> u64
 }
 
 // x xor (x shifted right by 33).
+#[tactic(auto, unfolding(rules::specs::Settings::shift_step))]
 fn shift_step(x: u64) -> u64
     ensures { result ≡ shift_step x }
 {
@@ -27,6 +29,7 @@ fn shift_step(x: u64) -> u64
 }
 
 // The 64-bit finaliser of MurmurHash3.
+#[tactic(auto, unfolding(rules::specs::Settings::finaliser))]
 fn finaliser(x: u64) -> u64
     ensures { result ≡ finaliser x }
 {

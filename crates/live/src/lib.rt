@@ -16,6 +16,7 @@ pub struct Lowered {
 }
 
 // Finds the place, counted from 0, where the location first occurs: `None` if it is not in the list.
+#[tactic(auto, using(crate::proofs::Laws::search_hit, crate::proofs::Laws::search_miss, crate::proofs::Laws::search_end))]
 pub fn first_place(locations: &[u64], n: usize, location: u64) -> Option<usize>
     ensures { result ≡ first_place location (take n locations.now) }
 {
@@ -35,6 +36,7 @@ pub fn first_place(locations: &[u64], n: usize, location: u64) -> Option<usize>
 
 // Puts the location at the front. The entries before the place move back by one; the entry at the place is overwritten.
 // If the place is past the end, nothing changes.
+#[tactic(auto, using(crate::proofs::Laws::moved_some, crate::proofs::Laws::moved_none))]
 pub fn to_front(locations: &mut [u64], place: usize, location: u64)
     ensures { locations.new ≡ moved_to_front place location locations.old }
 {
@@ -45,6 +47,7 @@ pub fn to_front(locations: &mut [u64], place: usize, location: u64)
 }
 
 // The largest hash in the list, or 0 if the list is empty.
+#[tactic(auto, using(crate::proofs::Laws::largest_more, rules::proofs::Tables::takes), unfolding(rules::specs::Reference::largest))]
 pub fn largest_hash(locations: &[u64], n: usize, hashing: Hashing) -> u64
     ensures { result ≡ largest (hash_of hashing) (take n locations.now) }
 {
