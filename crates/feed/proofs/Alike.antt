@@ -13,7 +13,9 @@ use Rattle.rules.specs.Calls.{apply_of}
 use Rattle.rules.proofs.Events.{taken}
 use Rattle.demands.specs.Refusing.{Agree}
 use Rattle.demands.proofs.Refusing.{agree_again}
-use Rattle.feed.specs.Feed.{End, whole, inside, Feeding, stopped, further, after_event, feed_of}
+use Rattle.feed.specs.declared.End.{End}
+use Rattle.feed.specs.declared.End.TheVariants.{Whole, Inside}
+use Rattle.feed.specs.Feed.{Feeding, stopped, further, after_event, feed_of}
 use Rattle.feed.specs.Alike.{FedAlike, FeedAgrees}
 use Rattle.feed.proofs.Laws.{feed_none, feed_reads, by_feeding}
 
@@ -36,8 +38,8 @@ module _ (bytes : List ℕ) (g : Got) (e : read_of bytes ≡ gives g) (s t : Tra
 
 pub feed_agrees : FeedAgrees
 feed_agrees = by_feeding (λ bytes s f. (t : Tracker) → Agree s t → FedAlike f (feed_of bytes t))
-    (λ s t a. both_stop (gives whole) s t _ (feed_none [] t refl) a)
-    (λ bytes s some e t a. both_stop (gives inside) s t _ (feed_reads bytes t some (refused 7) e) a)
+    (λ s t a. both_stop (gives Whole) s t _ (feed_none [] t refl) a)
+    (λ bytes s some e t a. both_stop (gives Inside) s t _ (feed_reads bytes t some (refused 7) e) a)
     (λ bytes s n other some e t a. both_stop (refused n) s t _ (feed_reads bytes t some (refused n) e ∙ rw (ne_eqb n 7 other)) a)
     (λ bytes s g n left e q t a.
     let other = (apply_of g.event t).left in

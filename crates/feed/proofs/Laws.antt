@@ -25,7 +25,8 @@ use Rattle.demands.specs.Runs.{Run, setup, restart, onto}
 use Rattle.demands.specs.Spans.{Made, none, Ends, all, next, overrun}
 use Rattle.demands.specs.Needed.{settings_under}
 use Rattle.demands.proofs.Spans.{made_settings, events_one_by_one}
-use Rattle.feed.specs.Feed.{whole, inside, Feeding, stopped, further, after_event, after_reading, first_then, feed_most, feed_of}
+use Rattle.feed.specs.declared.End.TheVariants.{Whole, Inside}
+use Rattle.feed.specs.Feed.{Feeding, stopped, further, after_event, after_reading, first_then, feed_most, feed_of}
 use Rattle.feed.specs.Past.{past_after}
 
 -- ---- one event: either all of it is taken, or it is refused, and of a span a first part is made
@@ -120,7 +121,7 @@ module _ (bytes : List ℕ) (s : Tracker) (next other : List ℕ → Tracker →
   reading_same (gives g) e = event_same g e (apply_of g.event s).result (apply_of g.event s).left
 
   first_same : first_then next bytes s ≡ first_then other bytes s
-  first_same = ap (cond (eqb (length bytes) 0) (stopped (gives whole) s)) (reading_same (read_of bytes) refl)
+  first_same = ap (cond (eqb (length bytes) 0) (stopped (gives Whole) s)) (reading_same (read_of bytes) refl)
 
 -- what is left after an event is less
 less : (bytes : List ℕ) {g : Got} {n : ℕ} → read_of bytes ≡ gives g → length bytes ≤ suc n → length (drop g.taken bytes) ≤ n
@@ -148,7 +149,7 @@ first_then_lem (x ∷ bytes) s =
 -- ---- each way that feeding goes
 
 module _ (bytes : List ℕ) (s : Tracker) where
-  pub feed_none : length bytes ≡ 0 → feed_of bytes s ≡ stopped (gives whole) s
+  pub feed_none : length bytes ≡ 0 → feed_of bytes s ≡ stopped (gives Whole) s
   feed_none h = first_then_lem bytes s ∙ rw (eq-eqb _ _ h)
 
   module _ (some : 0 < length bytes) where
@@ -158,8 +159,8 @@ module _ (bytes : List ℕ) (s : Tracker) where
 -- ---- to show P of what feeding comes to, show it of each way to stop, and of an event with what comes after it
 
 module _ (P : List ℕ → Tracker → Feeding → Type 0)
-    (ends : (s : Tracker) → P [] s (stopped (gives whole) s))
-    (cut : (bytes : List ℕ) (s : Tracker) → 0 < length bytes → read_of bytes ≡ refused 7 → P bytes s (stopped (gives inside) s))
+    (ends : (s : Tracker) → P [] s (stopped (gives Whole) s))
+    (cut : (bytes : List ℕ) (s : Tracker) → 0 < length bytes → read_of bytes ≡ refused 7 → P bytes s (stopped (gives Inside) s))
     (unknown : (bytes : List ℕ) (s : Tracker) (n : ℕ) → (n ≡ 7 → ⊥) → 0 < length bytes → read_of bytes ≡ refused n → P bytes s (stopped (refused n) s))
     (refuses : (bytes : List ℕ) (s : Tracker) (g : Got) (n : ℕ) (left : Tracker) → read_of bytes ≡ gives g → Stopped g.event s n left
     → P bytes s (stopped (refused n) left))

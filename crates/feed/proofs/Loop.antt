@@ -13,7 +13,9 @@ use Rattle.rules.specs.Events.{read_of}
 use Rattle.rules.specs.Layout.{Tracker}
 use Rattle.rules.specs.Calls.{apply_of}
 use Rattle.rules.proofs.Events.{taken}
-use Rattle.feed.specs.Feed.{End, whole, Feeding, stopped, further, unreadable, after_reading, feed_of}
+use Rattle.feed.specs.declared.End.{End}
+use Rattle.feed.specs.declared.End.TheVariants.{Whole}
+use Rattle.feed.specs.Feed.{Feeding, stopped, further, unreadable, after_reading, feed_of}
 use Rattle.feed.proofs.Laws.{taking, feed_none, feed_reads}
 use Rattle.feed.proofs.Pieces.{further_zero, further_further}
 
@@ -33,7 +35,7 @@ module _ {bytes : List ℕ} {first : Tracker} {at : ℕ} {s : Tracker} (w : Goin
   stops : {why : Result End} {left : Tracker} → feed_of (drop at bytes) s ≡ stopped why left → at_place at why left ≡ feed_of bytes first
   stops {why} {left} e = sym (w.is ∙ ap (further at) e ∙ (λ i. at_place (add-zero at i) why left))
 
-  pub at_end : length bytes ≤ at → at_place at (gives whole) s ≡ feed_of bytes first
+  pub at_end : length bytes ≤ at → at_place at (gives Whole) s ≡ feed_of bytes first
   at_end h = stops (feed_none (drop at bytes) s (rw length-drop (omega arith)))
 
   module _ (some : at < length bytes) where

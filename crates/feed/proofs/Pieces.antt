@@ -17,7 +17,9 @@ use Rattle.rules.specs.Layout.{Tracker}
 use Rattle.rules.specs.Calls.{apply_of}
 use Rattle.rules.proofs.Events.{read_empty, taken}
 use Rattle.demands.proofs.Spans.{made_none}
-use Rattle.feed.specs.Feed.{End, whole, inside, Feeding, stopped, further, after_event, after_reading, feed_of, onward, resumed}
+use Rattle.feed.specs.declared.End.{End}
+use Rattle.feed.specs.declared.End.TheVariants.{Whole, Inside}
+use Rattle.feed.specs.Feed.{Feeding, stopped, further, after_event, after_reading, feed_of, onward, resumed}
 use Rattle.feed.specs.Feed.{left_by, TakenAlone}
 use Rattle.rules.proofs.Fronts.{read_more, read_short, read_refused, drop_take, read_front}
 use Rattle.feed.proofs.Laws.{taking, Took, apply_either, feed_none, feed_reads, by_feeding}
@@ -27,13 +29,13 @@ use Rattle.feed.proofs.Laws.{taking, Took, apply_either, feed_none, feed_reads, 
 -- what is untaken of l bytes: nothing at the end of an event, else less than an event
 abbrev pub Untaken : Result End → (l taken : ℕ) → Type 0
 Untaken (refused n) l taken = taken ≤ l
-Untaken (gives whole) l taken = taken ≡ l
-Untaken (gives inside) l taken = (taken < l) × (l < taken + 18)
+Untaken (gives Whole) l taken = taken ≡ l
+Untaken (gives Inside) l taken = (taken < l) × (l < taken + 18)
 
 untaken_further : (why : Result End) (n l taken : ℕ) → n ≤ l → Untaken why (l - n) taken → Untaken why l (n + taken)
 untaken_further (refused m) n l taken h u = omega arith
-untaken_further (gives whole) n l taken h u = omega arith
-untaken_further (gives inside) n l taken h u = (omega arith, omega arith)
+untaken_further (gives Whole) n l taken h u = omega arith
+untaken_further (gives Inside) n l taken h u = (omega arith, omega arith)
 
 pub untaken : (bytes : List ℕ) (s : Tracker) → Untaken (feed_of bytes s).result (length bytes) (feed_of bytes s).taken
 untaken = by_feeding (λ bytes s f. Untaken f.result (length bytes) f.taken)
@@ -47,8 +49,8 @@ untaken = by_feeding (λ bytes s f. Untaken f.result (length bytes) f.taken)
 
 within : (why : Result End) (l n : ℕ) → Untaken why l n → n ≤ l
 within (refused m) l n u = u
-within (gives whole) l n u = omega arith
-within (gives inside) l n u = omega arith
+within (gives Whole) l n u = omega arith
+within (gives Inside) l n u = omega arith
 
 pub taken_within : (bytes : List ℕ) (s : Tracker) → (feed_of bytes s).taken ≤ length bytes
 taken_within bytes s = within (feed_of bytes s).result (length bytes) (feed_of bytes s).taken (untaken bytes s)
@@ -96,7 +98,7 @@ none_taken = by_feeding (λ bytes s f. f.taken ≡ 0 → f.left.kept.numbers.ref
     (λ bytes s g left e t h z r. absurd (omega (arith, taken bytes e)))
 
 -- nothing fed leaves all as it was
-pub nothing : (bytes : List ℕ) (s : Tracker) → feed_of (take 0 bytes) s ≡ stopped (gives whole) s
+pub nothing : (bytes : List ℕ) (s : Tracker) → feed_of (take 0 bytes) s ≡ stopped (gives Whole) s
 nothing bytes s = feed_none (take 0 bytes) s refl
 
 -- where feeding stops at once, only the first event can have changed anything
@@ -140,14 +142,14 @@ module _ (bytes : List ℕ) (s : Tracker) (g : Got) (e : read_of bytes ≡ gives
       feed_reads event s (omega (arith, taken event e')) (gives g) e'
       ∙ ap (λ o. after_event feed_of g.taken event o.result o.left) is
 
-  no_more : (left : Tracker) → feed_of (drop g.taken event) left ≡ stopped (gives whole) left
+  no_more : (left : Tracker) → feed_of (drop g.taken event) left ≡ stopped (gives Whole) left
   no_more left = feed_none (drop g.taken event) left (rw length-drop (omega (arith, length-take-le g.taken bytes (taken bytes e).1)))
 
   pub one_event : {C : Type 0}
-      → ((left : Tracker) → apply_of g.event s ≡ taking left → feed_of event s ≡ record { taken = g.taken; result = gives whole; left = left } → C)
+      → ((left : Tracker) → apply_of g.event s ≡ taking left → feed_of event s ≡ record { taken = g.taken; result = gives Whole; left = left } → C)
       → ((n : ℕ) (left : Tracker) → apply_of g.event s ≡ outcome (refused n) left → feed_of event s ≡ stopped (refused n) left → C) → C
   one_event took refuses = apply_either s g.event
       (λ left t. took left t.is
       (reads (taking left) t.is ∙ ap (further g.taken) (no_more left)
-      ∙ (λ i. record { taken = add-zero g.taken i; result = gives whole; left = left })))
+      ∙ (λ i. record { taken = add-zero g.taken i; result = gives Whole; left = left })))
       (λ n left q. refuses n left q.is (reads (outcome (refused n) left) q.is))

@@ -18,7 +18,8 @@ use Rattle.demands.specs.Spans.{Made, none as nothing, more}
 use Rattle.demands.specs.Needed.{needed_by, SameBeyond, settings_under, most_needed}
 use Rattle.demands.proofs.Spans.{made_continues}
 use Rattle.demands.proofs.Needed.{same_all, made_beyond, only_needed, beyond_both}
-use Rattle.feed.specs.Feed.{End, Feeding, stopped, further, feed_of, left_by}
+use Rattle.feed.specs.declared.End.{End}
+use Rattle.feed.specs.Feed.{Feeding, stopped, further, feed_of, left_by}
 use Rattle.feed.specs.Past.{past_after, none, one, references_next, Ran}
 use Rattle.rules.proofs.Fronts.{drop_take, read_front}
 use Rattle.feed.proofs.Laws.{Took, by_feeding}

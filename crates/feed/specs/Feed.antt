@@ -1,18 +1,13 @@
 -- Document 01, "Trace events" and "The curve program": feeding the bytes of a trace, event by event. Assumes nothing.
 use Rattle.std.specs.Prelude.{ℕ, zero, suc, ◌+◌, ◌≡◌, cond, List, ◌++◌, eqb, length, take, drop}
-use Rattle.rules.specs.Answers.{Result, refused, gives, number}
+use Rattle.rules.specs.Answers.{Result, refused, gives, result_of}
 use Rattle.rules.specs.declared.Got.{Got}
 use Rattle.rules.specs.Events.{read_of}
-use Rattle.rules.specs.Layout.{Tracker, tracker}
+use Rattle.rules.specs.Layout.{Tracker}
 use Rattle.rules.specs.Calls.{apply_of}
-use Rattle.feed.specs.declared.Ending.{Ending}
-use Rattle.feed.specs.declared.Ending.TheVariants as ending
+use Rattle.feed.specs.declared.End.{End}
+use Rattle.feed.specs.declared.End.TheVariants.{Whole, Inside}
 use Rattle.feed.specs.declared.Fed.{Fed}
-
--- where the bytes end, if no event is refused: after a whole event, or inside one, which is left untaken
-pub data End : Type 0 where
-  whole : End
-  inside : End
 
 -- how many bytes were taken, why no more were, and the tracker after them; a refused event begins right after the bytes taken
 pub record Feeding : Type 0 where
@@ -29,7 +24,7 @@ further n f = record { taken = n + f.taken; result = f.result; left = f.left }
 
 -- the result at an event that cannot be read: an incomplete event is not refused yet
 abbrev pub unreadable : ℕ → Result End
-unreadable n = cond (eqb n 7) (gives inside) (refused n)
+unreadable n = cond (eqb n 7) (gives Inside) (refused n)
 
 -- after a refused event nothing more is done
 abbrev pub after_event : (List ℕ → Tracker → Feeding) → (taken : ℕ) → List ℕ → Result (Unit {0}) → Tracker → Feeding
@@ -42,11 +37,11 @@ after_reading more bytes (gives g) s = after_event more g.taken bytes (apply_of 
 
 -- the first event, and then more
 abbrev pub first_then : (List ℕ → Tracker → Feeding) → List ℕ → Tracker → Feeding
-first_then more bytes s = cond (eqb (length bytes) 0) (stopped (gives whole) s) (after_reading more bytes (read_of bytes) s)
+first_then more bytes s = cond (eqb (length bytes) 0) (stopped (gives Whole) s) (after_reading more bytes (read_of bytes) s)
 
 -- at most this many events
 unfoldable pub feed_most : (events : ℕ) → List ℕ → Tracker → Feeding
-feed_most zero bytes s = stopped (gives whole) s
+feed_most zero bytes s = stopped (gives Whole) s
 feed_most (suc n) bytes s = first_then (feed_most n) bytes s
 
 -- until the bytes end or an event is refused: an event takes at least one byte
@@ -63,7 +58,7 @@ resumed f bytes more = onward f.result f.taken bytes more f.left
 
 -- all of so many bytes were taken, and left this
 abbrev pub all_taken : (taken : ℕ) → Tracker → Feeding
-all_taken taken s = record { taken = taken; result = gives whole; left = s }
+all_taken taken s = record { taken = taken; result = gives Whole; left = s }
 
 -- what the first event of some bytes leaves: one that cannot be read changes nothing
 abbrev pub left_by : Result Got → Tracker → Tracker
@@ -76,16 +71,7 @@ pub record TakenAlone (bytes : List ℕ) (s : Tracker) (f : Feeding) : Type 0 wh
   pub before : feed_of (take f.taken bytes) s ≡ all_taken f.taken between
   pub left_is : f.left ≡ left_by (read_of (drop f.taken bytes)) between
 
--- ---- what the code returns, with the tables as the call left them
+-- ---- what the code returns, with the tracker as the call left it
 
-abbrev pub ending_result : Ending → Result End
-ending_result ending.Whole = gives whole
-ending_result ending.Inside = gives inside
-ending_result (ending.Refused r) = refused (number r)
-
-abbrev pub after_fed : Fed → (locations counts thresholds : List ℕ) → Feeding
-after_fed r locations counts thresholds = record {
-  taken = r.taken;
-  result = ending_result r.ending;
-  left = tracker r.kept locations counts thresholds;
-}
+abbrev pub after_fed : Fed → Tracker → Feeding
+after_fed fed s = record { taken = fed.taken; result = result_of fed.ending; left = s }

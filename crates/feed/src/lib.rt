@@ -2,90 +2,83 @@
 #![tactic(auto)]
 
 ghost use Rattle.std.specs.Prelude.{◌≡◌};
-ghost use Rattle.rules.specs.Answers.{number};
+ghost use Rattle.rules.specs.Answers.{number, result_of};
 ghost use Rattle.rules.specs.Layout.{tracker};
-ghost use Rattle.feed.specs.Feed.{unreadable, feed_of, ending_result, after_fed};
+ghost use Rattle.feed.specs.Feed.{unreadable, feed_of, after_fed};
 
-use refer::Skipping;
-use rules::{Reading, Record, Refusal, Taken};
+use rules::{Got, Record, Refusal};
 
-// Why no more bytes were taken: they end after a whole event, they end inside one, or an event was refused.
-#[derive(Clone, Copy)]
-pub enum Ending {
-    // They end after a whole event.
+// Where bytes end of which no event is refused.
+#[derive(Clone, Copy, PartialEq, Eq)]
+pub enum End {
+    // After a whole event.
     Whole,
-    // They end inside an event, which was not taken.
+    // Inside an event, which was not taken.
     Inside,
-    // An event could not be read, or was refused. The references of a span that were accepted before one was refused stay counted.
-    Refused(Refusal),
 }
 
-// The record after feeding, how many bytes were taken, and why no more were. A refused event begins right after the bytes taken.
+// How many bytes were taken, and why no more were: they end, or an event could not be read or was refused. The refused event begins right
+// after the bytes taken; the references of a span that were accepted before one was refused stay counted.
 #[derive(Clone, Copy)]
 pub struct Fed {
-    pub kept: Record,
     pub taken: usize,
-    pub ending: Ending,
+    pub ending: Result<End, Refusal>,
 }
 
 // The ending at an event that cannot be read. An incomplete event is not refused yet.
-fn unreadable(why: Refusal) -> Ending
-    ensures { ending_result result ≡ unreadable (number why) }
+fn unreadable(why: Refusal) -> Result<End, Refusal>
+    ensures { result_of result ≡ unreadable (number why) }
 {
-    if judge::number_of(why) == 7 {
-        return Ending::Inside;
+    match why {
+        Refusal::Short => Ok(End::Inside),
+        _ => Err(why),
     }
-    Ending::Refused(why)
 }
 
 // Applies event after event, until the bytes end, end inside an event, or an event is refused. Most events are one reference that is
-// Skipped: they go round a short loop of their own, with the record in registers.
+// Skipped: they go round a short loop of their own, with the record in registers. Each event says itself how far the next one is.
 pub fn feed(
-    kept: Record,
+    kept: &mut Record,
     bytes: &[u8],
     locations: &mut [u64],
     counts: &mut [u64],
     thresholds: &mut [u32],
 ) -> Fed
-    ensures { after_fed result locations.new counts.new thresholds.new
-        ≡ feed_of bytes.now (tracker kept locations.old counts.old thresholds.old) }
+    ensures { after_fed result (tracker kept.new locations.new counts.new thresholds.new)
+        ≡ feed_of bytes.now (tracker kept.old locations.old counts.old thresholds.old) }
 {
-    let mut at: usize = 0;
-    let mut latest = kept;
+    let mut at = 0;
+    let mut latest = *kept;
     while at < bytes.len() {
         match reading::read(&bytes[at..]) {
-            Reading::Got(event, taken) => {
-                if let Skipping::Counted(after) = apply::skip(
-                    latest, event, locations, counts, thresholds,
-                ) {
+            Ok(Got { event, taken }) => {
+                if let Some(after) = apply::skip(latest, event, locations, counts, thresholds) {
                     latest = after;
                     at += taken;
                     continue;
                 }
-                let applied = apply::apply(latest, event, locations, counts, thresholds);
-                let answer = applied.answer;
-                latest = applied.kept;
-                if let Taken::Refused(why) = answer {
+                *kept = latest;
+                if let Err(why) = apply::apply(kept, event, locations, counts, thresholds) {
                     return Fed {
-                        kept: latest,
                         taken: at,
-                        ending: Ending::Refused(why),
+                        ending: Err(why),
                     };
                 }
+                latest = *kept;
                 at += taken;
             }
-            Reading::Refused(why) => {
+            Err(why) => {
+                *kept = latest;
                 return Fed {
-                    kept: latest,
                     taken: at,
                     ending: unreadable(why),
                 };
             }
         }
     }
+    *kept = latest;
     Fed {
-        kept: latest,
         taken: at,
-        ending: Ending::Whole,
+        ending: Ok(End::Whole),
     }
 }
