@@ -21,11 +21,9 @@ returns-then-out-points c = curve_short _ c.requires c.if-out-points.true
 pub returns-then-empty : goal.returns-then-empty
 returns-then-empty c =
     let text = puts_then c.put_first_line.ensures.puts c.put.ensures in
-    let same = text.same_buffer in
     empty_curve _ c.if-out-points.false (judged_as c.requires c.if-empty.true) (left_so text.adds (search rules))
 
 pub returns : goal.returns
 returns c =
     let text = puts_then c.put_first_line.ensures.puts (puts_then c.put_points.ensures.puts c.put-2.ensures) in
-    let same = text.same_buffer in
     points_curve _ c.if-out-points.false (judged_as c.requires c.if-empty.false) (left_so text.adds (search rules))

@@ -15,5 +15,4 @@ pub returns : goal.returns
 unfolding refused_in refused_line
 returns c =
     let line = puts_then c.put_both.ensures.puts (puts_then c.put_both-2.ensures.puts c.put.ensures) in
-    let same = line.same_buffer in
     in_room [] _ _ _ tt c.if-out-lt-LONGEST_REFUSED.false (left_so line.adds (search rules))
