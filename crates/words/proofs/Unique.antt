@@ -8,6 +8,7 @@ use Rattle.rules.specs.declared.Record.{Record}
 use Rattle.rules.specs.declared.Point.{Point}
 use Rattle.rules.specs.declared.PlotPoint.{PlotPoint}
 use Rattle.rules.specs.declared.Reply.{Reply}
+use Rattle.rules.specs.declared.SetupBody.{SetupBody}
 use Rattle.rules.specs.Answers.{Result}
 use Rattle.rules.specs.declared.Got.{Got}
 use Rattle.feed.specs.declared.End.{End}
@@ -15,7 +16,7 @@ use Rattle.words.specs.declared.AskedSettings.{AskedSettings}
 use Rattle.words.specs.declared.Believed.{Believed}
 use Rattle.words.specs.declared.FedWords.{FedWords}
 use Rattle.words.specs.Words.{settings_from, shape_from, few_words, record_of, stored_if, returned, stored_start, answer_words, point_words, plot_words}
-use Rattle.words.specs.Words.{event_words, written_words, fed_words, applied_from}
+use Rattle.words.specs.Words.{asked_by, got_words, event_words, written_words, fed_words, applied_from}
 
 abbrev Once : {A : Type 0} → A → Type 0
 Once {A} x = (r s : A) → r ≡ x → s ≡ x → r ≡ s
@@ -59,6 +60,12 @@ point_words_once result = once _
 
 pub plot_words_once : (result : Result PlotPoint) → Once (plot_words result)
 plot_words_once result = once _
+
+pub asked_by_once : (body : SetupBody) → Once (asked_by body)
+asked_by_once body = once _
+
+pub got_words_once : (got : Got) → Once (got_words got.event got.taken)
+got_words_once got = once _
 
 pub event_words_once : (result : Result Got) → Once (event_words result)
 event_words_once result = once _
