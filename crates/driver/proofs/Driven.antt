@@ -48,7 +48,7 @@ use Rattle.feed.proofs.Pieces.{taken_alone}
 use Rattle.feed.specs.Refused.{next_order}
 use Rattle.feed.proofs.Refused.{event_refused, unread_named, feed_in_order}
 use Rattle.feed.proofs.Runs.{ran}
-use Rattle.rules.specs.declared.Written.TheVariants as written
+use Rattle.std.specs.Prelude.{Ok}
 use Rattle.writing.specs.ReadBack.{WritePromise}
 use Rattle.writing.proofs.Laws.{reads_back}
 use Rattle.words.specs.Words.{few_words, words_of, record_of, put, returned, answer_words, point_words, plot_words, event_words}
@@ -733,7 +733,7 @@ pub read_back_in : ReadBackIn
 read_back_in e before after w (is, fits) z bytes = result_cases (write_of e before).result
     (λ n filled begins.
     let told : w.length ≡ n = ap (λ o. o.value.length) is ∙ ap (λ r. (written_words r).length) filled in
-    let promise : WritePromise e before (written.Filled n) after = ((λ i. outcome (sym filled i) (is i).left), fits) in
+    let promise : WritePromise e before (Ok n) after = ((λ i. outcome (sym filled i) (is i).left), fits) in
     ap event_words (reads_back e before after n promise bytes (subst (λ k. take k bytes ≡ take k after) told begins))
     ∙ (λ i. event_words (gives (record { event = e; taken = sym told i }))))
     (λ n r begins.

@@ -7,7 +7,7 @@ use mathlib.Core.List.{List, [], ◌++◌, append-nil}
 use native.Mathlib.Omega.{arith}
 use lib.Dec.{eqb}
 use lib.ListN.{length, take, drop}
-use borrow.Author.Tests.{eqb-true, eq-eqb, not-false}
+use borrow.Author.Tests.{eqb-true, not-false}
 use Rattle.std.specs.Prelude.{Ok, Err, is_ok}
 use Rattle.std.specs.declared.result.Result as told
 use Rattle.rules.specs.declared.Refusal.{Refusal}
@@ -25,6 +25,7 @@ use Rattle.rules.specs.Layout.{Tracker}
 use Rattle.rules.specs.Conditions.{too_short}
 use Rattle.rules.specs.Calls.{setup_of, restart_of, started_over, restart_over, refer_of, span_of, apply_of}
 use Rattle.rules.proofs.Tests.{cases, clash, neither}
+use Rattle.rules.proofs.Order.{not_both}
 use Rattle.rules.proofs.Calls.{refer_accept, refer_either}
 use Rattle.rules.proofs.Events.{write_fits}
 use Rattle.rules.proofs.Round.{round}
@@ -79,16 +80,16 @@ module _ {A B : Type 0} (words : Result A → B) (call : Tracker → Outcome A T
 
 -- ---- a reference
 
-pub refer_stored : (x : ℕ) (h : Held) {answer : told.Result Reply Refusal} {kept : Record} {t : Tables} {r : AnswerWords} {w : List ℕ}
+pub refer_stored : (x : ℕ) (h : Held) (answer : told.Result Reply Refusal) {kept : Record} {t : Tables} {r : AnswerWords} {w : List ℕ}
     → few_words h.words ≡ false → outcome (result_of answer) (record { kept = kept; tables = t }) ≡ refer_of x (tracker_in h)
     → r ≡ answer_words (result_of answer) → w ≡ stored_if (is_ok answer) kept h.words → returned r (held w t) ≡ refer_in x h
-refer_stored x h {answer} {kept} enough e is stored =
+refer_stored x h answer {kept} enough e is stored =
     stored_by answer_words (refer_of x) h enough e is (stored ∙ stored_put (is_ok answer) kept h.words own)
   where
     -- a refused reference leaves the words' own record
     refused_is : (a : told.Result Reply Refusal) → is_ok a ≡ false → (y : Reply) → result_of a ≡ gives y → ⊥
-    refused_is (Ok y) z = clash z refl
-    refused_is (Err why) z y q = absurd (not_both q refl)
+    refused_is (Ok r) z y q = clash refl z
+    refused_is (Err why) z y q = absurd (not_both refl q)
 
     own : is_ok answer ≡ false → kept ≡ record_of h.words
     own z = refer_either x (tracker_in h)

@@ -12,7 +12,7 @@ ghost use Rattle.driver.specs.Calls.{version, held, setup_body_from, few_for_set
 ghost use Rattle.rules.specs.Events.{Fits};
 ghost use Rattle.driver.specs.Calls.{hash_in, setup_in, restart_in, refer_in, span_in, point_in, plot_in, apply_in, fed_from, feed_in, read_in, write_in};
 
-use rules::{Event, Hashing, Refusal, Reply, Settings, SetupBody};
+use rules::{Event, Hashing, Refusal, Reply, Settings, SetupBody, Shape};
 use words::{
     AnswerWords, AppliedWords, AskedSettings, Believed, EventWords, FedWords, PlotWords,
     PointWords, WrittenWords, fed_words, record_of, store_if, store_started, too_few,
@@ -151,7 +151,7 @@ pub extern "C" fn rockgingham_refer_span(
         return Refusal::Tables.into();
     }
     let mut event: [u8; 13] = [0; 13];
-    writing::write(Event::Span { offset, length }, &mut event);
+    let _ = writing::write(Event::Span { offset, length }, &mut event);
     feed_stored(words, &event, locations, counts, thresholds).refusal
 }
 
@@ -171,7 +171,8 @@ pub extern "C" fn rockgingham_point(
     if too_few(words) {
         return PointWords::from(Err(Refusal::Tables));
     }
-    points::point(record_of(words), believed.into(), number, counts, thresholds).into()
+    let shape = Shape::from(believed);
+    points::point(record_of(words), shape, number, counts, thresholds).into()
 }
 
 // The same point as a pair of doubles: the size, and misses divided by total.
@@ -188,7 +189,8 @@ pub extern "C" fn rockgingham_plot(
     if too_few(words) {
         return PlotWords::from(Err(Refusal::Tables));
     }
-    points::plot_point(record_of(words), believed.into(), number, counts, thresholds).into()
+    let shape = Shape::from(believed);
+    points::plot_point(record_of(words), shape, number, counts, thresholds).into()
 }
 
 // ---- trace events

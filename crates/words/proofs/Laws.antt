@@ -1,16 +1,16 @@
 -- The record and its words are one another's, word by word: each of the nine computes. And what is written over the front of lent words. Assumes nothing.
-use Prim.Native.Nat.{ℕ, zero, suc, ◌+◌, ◌<◌, ◌≤◌}
+use Prim.Native.Nat.{ℕ, zero, suc, ◌<◌}
 use native.Mathlib.Omega.{arith}
 use mathlib.Core.Path.{◌≡◌, refl, sym, ap, ◌∙◌}
 use mathlib.Core.Bool.{false}
 use mathlib.Core.List.{List}
-use lib.ListN.{length, take, get_or, set}
-use lib.Seq.{ext_get_or, take-suc, get_or-take, length-take-le}
-use borrow.Author.Tests.{ltb-false, lt-ltb, le-ltb}
+use lib.ListN.{length, take, get_or}
+use lib.Seq.{ext_get_or, get_or-take, length-take-le}
+use borrow.Author.Tests.{ltb-false}
 use Rattle.rules.specs.declared.Record.{Record}
 use Rattle.rules.specs.Lists.{over}
 use Rattle.rules.proofs.Tests.{cases}
-use Rattle.rules.proofs.Tables.{over_set, over_same, over_length}
+use Rattle.rules.proofs.Tables.{over_same, over_length}
 use Rattle.words.specs.Words.{few_words, record_of, words_of, put}
 
 -- the words of a record are that record's, and a record's words are the first nine that it came from

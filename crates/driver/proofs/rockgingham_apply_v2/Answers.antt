@@ -8,12 +8,12 @@ use Rattle.driver.proofs.Laws.{apply_fed}
 use Rattle.driver.proofs.rockgingham_apply_v2.Goals as goal
 
 pub slice_bounds-feed_stored-end : goal.slice_bounds-feed_stored-end
-slice_bounds-feed_stored-end c = sym (length-take-le _ _ (taken _ (sym c.in-Got.ensures)).1)
+slice_bounds-feed_stored-end c = sym (length-take-le _ _ (taken _ (sym c.in-Ok.ensures)).1)
 
-pub returns-in-Got : goal.returns-in-Got
-returns-in-Got c =
+pub returns-in-Ok : goal.returns-in-Ok
+returns-in-Ok c =
     let a = c.args in
     apply_fed _ (held a.words.now (tables_of a.locations.now a.counts.now a.thresholds.now))
     (sym c.too_few.ensures ∙ c.if-too_few.false)
-    (sym c.in-Got.ensures) c.feed_stored.ensures
-    c.applied_words-in-Got.ensures
+    (sym c.in-Ok.ensures) c.feed_stored.ensures
+    c.into-in-Ok.ensures

@@ -6,4 +6,4 @@ use Rattle.driver.proofs.rockgingham_setup_v2.Goals as goal
 pub returns : goal.returns
 returns c =
     setup_stored _ _ (sym c.too_few.ensures ∙ c.if-too_few.false)
-    (rw c.settings_from-settings.ensures at c.setup-started.ensures) c.store_started.ensures
+    (rw c.from-settings.ensures at c.setup-started.ensures) c.store_started.ensures
