@@ -12,9 +12,7 @@ use Rattle.std.specs.declared.io.ErrorKind.{ErrorKind}
 use Rattle.std.specs.declared.io.ErrorKind.TheVariants as kind
 use Rattle.std.specs.IoError.{error_kind}
 use Rattle.rules.proofs.Tests.{cases}
-use Rattle.curve.specs.declared.Came.{Came}
-use Rattle.curve.specs.declared.Came.TheVariants as came
-use Rattle.curve.specs.Program.{interruption, interrupted, came_of}
+use Rattle.curve.specs.Program.{interruption, interrupted, Came, some_bytes, no_more, once_more, failure, came_of}
 
 is_interrupted : (error : Error) → error_kind error ≡ kind.Interrupted → interrupted error ≡ true
 is_interrupted error is = rw is
@@ -27,32 +25,32 @@ not_interrupted : (error : Error) → (error_kind error ≡ kind.Interrupted →
 not_interrupted error not = not_interruption (error_kind error) not
 
 module _ (room : ℕ) where
-  pub came_bytes : (k : ℕ) {n : ℕ} → 0 < k → n ≡ min k room → came.Bytes n ≡ came_of (Ok k) room
+  pub came_bytes : (k : ℕ) {n : ℕ} → 0 < k → n ≡ min k room → some_bytes n ≡ came_of (Ok k) room
   came_bytes k some is = rw (ne_eqb k 0 (λ z. omega (arith, z, some)), is)
 
-  pub came_end : came.End ≡ came_of (Ok 0) room
+  pub came_end : no_more ≡ came_of (Ok 0) room
   came_end = refl
 
   -- of an error, which was a negative number of the system's
-  came_negative : (error : Error) → came_of (Err error) room ≡ cond (interrupted error) came.Again (came.Failed error)
+  came_negative : (error : Error) → came_of (Err error) room ≡ cond (interrupted error) once_more (failure error)
   came_negative error = refl
 
-  pub came_again : (error : Error) → error_kind error ≡ kind.Interrupted → came.Again ≡ came_of (Err error) room
+  pub came_again : (error : Error) → error_kind error ≡ kind.Interrupted → once_more ≡ came_of (Err error) room
   came_again error is = sym (came_negative error ∙ rw (is_interrupted error is))
 
-  pub came_failed : (error : Error) → (error_kind error ≡ kind.Interrupted → ⊥) → came.Failed error ≡ came_of (Err error) room
+  pub came_failed : (error : Error) → (error_kind error ≡ kind.Interrupted → ⊥) → failure error ≡ came_of (Err error) room
   came_failed error not = sym (came_negative error ∙ rw (not_interrupted error not))
 
 -- no more came than there was room for
 abbrev Within : Came → (room : ℕ) → Type 0
-Within (came.Bytes n) room = n ≤ room
-Within came.End room = Unit {0}
-Within came.Again room = Unit {0}
-Within (came.Failed e) room = Unit {0}
+Within (some_bytes n) room = n ≤ room
+Within no_more room = Unit {0}
+Within once_more room = Unit {0}
+Within (failure e) room = Unit {0}
 
 within : (got : told.Result ℕ Error) (room : ℕ) → Within (came_of got room) room
 within (Ok k) room = cases (eqb k 0) (λ z. rw z tt) (λ z. rw z (omega arith))
 within (Err e) room = cases (interrupted e) (λ z. rw z tt) (λ z. rw z tt)
 
-pub came_fits : (got : told.Result ℕ Error) (room : ℕ) {n : ℕ} → came_of got room ≡ came.Bytes n → n ≤ room
+pub came_fits : (got : told.Result ℕ Error) (room : ℕ) {n : ℕ} → came_of got room ≡ some_bytes n → n ≤ room
 came_fits got room e = rw e at (within got room)

@@ -7,48 +7,39 @@ use native.Mathlib.Omega.{arith}
 use lib.ListN.{length, take, drop, length-append, length-drop}
 use lib.Seq.{drop-append-le, drop-drop}
 use borrow.Author.Tests.{lt-ltb, le-ltb}
+use Rattle.std.specs.Prelude.{Ok, Err, IsOk}
+use Rattle.std.specs.declared.result.Result as told
+use Rattle.std.specs.declared.io.Error.{Error}
+use Rattle.std.specs.declared.ops.ControlFlow.TheVariants.{Continue, Break}
 use Rattle.rules.specs.Lists.{over}
 use Rattle.rules.specs.Settings.{Histogram, Tables}
-use Rattle.rules.specs.Answers.{Result, refused, gives, number_of}
+use Rattle.rules.specs.Answers.{Result, refused, gives, number_of, result_of}
 use Rattle.rules.specs.Order.{Outcome, outcome}
 use Rattle.rules.specs.Layout.{Tracker}
 use Rattle.rules.specs.Calls.{setup_of}
 use Rattle.rules.specs.declared.Record.{Record}
+use Rattle.rules.specs.declared.Refusal.{Refusal}
 use Rattle.rules.proofs.Bounds.{buckets_long}
-use Rattle.rules.proofs.Answers.{number_some, number_refused}
+use Rattle.rules.proofs.Answers.{number_refused}
 use Rattle.rules.proofs.Order.{not_both, says_given}
 use Rattle.rules.proofs.Tables.{over_front}
-use Rattle.feed.specs.declared.Ending.{Ending}
-use Rattle.feed.specs.declared.Ending.TheVariants as ending
-use Rattle.feed.specs.Feed.{End, whole, inside, Feeding, ending_result, feed_of}
+use Rattle.feed.specs.declared.End.{End}
+use Rattle.feed.specs.declared.End.TheVariants.{Whole, Inside}
+use Rattle.feed.specs.Feed.{Feeding, feed_of}
 use Rattle.feed.proofs.Laws.{feed_none}
 use Rattle.feed.proofs.Pieces.{Untaken, untaken, taken_within, pieces}
 use Rattle.text.specs.Text.{refused_line, curve_text, curve_order, curve_of, longest_curve, longest_refused, curve_in, refused_in}
 use Rattle.text.proofs.Curves.{in_filled, in_unfilled}
-use Rattle.curve.specs.declared.Came.{Came}
-use Rattle.curve.specs.declared.Came.TheVariants as came
-use Rattle.curve.specs.declared.Done.{Done}
-use Rattle.curve.specs.declared.Done.TheVariants as done
+use Rattle.curve.specs.declared.Stop.TheVariants as stop
 use Rattle.curve.specs.declared.Pause.{Pause}
-use Rattle.curve.specs.declared.Next.{Next}
-use Rattle.curve.specs.declared.Next.TheVariants as next
-use Rattle.curve.specs.Program.{first_settings, first_tables, or_refused, end_text, last_text, text_from, text_after, text_over, came_of}
-use Rattle.curve.specs.Program.{Stands, Reached, Follows, Refuses, Ready, Later, AfterRead, OneRead, Prints, Followed}
+use Rattle.curve.specs.Program.{first_settings, first_tables, or_refused, end_text, last_text, text_from, text_after, text_over}
+use Rattle.curve.specs.Program.{Came, some_bytes, no_more, once_more, failure, came_of, Next, Done, Stands, Reached, Follows, Refuses, Ready, Later, AfterRead, OneRead, Prints, Followed}
 use Rattle.curve.specs.Program.{Tells, TellsOver, Printing}
 
 -- ---- what feeding ended with
 
-pub record Ends (why : Result End) : Type 0 where
-  pub end : End
-  pub is : why ≡ gives end
-
-pub no_refusal : (e : Ending) {n : ℕ} → n ≡ number_of (ending_result e) → (0 < n → ⊥) → Ends (ending_result e)
-no_refusal ending.Whole q h = record { end = whole; is = refl }
-no_refusal ending.Inside q h = record { end = inside; is = refl }
-no_refusal (ending.Refused r) {n} q h = absurd (number_some r (omega arith))
-
-pub a_refusal : (e : Ending) {n : ℕ} → n ≡ number_of (ending_result e) → 0 < n → ending_result e ≡ refused n
-a_refusal e q h = number_refused (ending_result e) (rw q at h) ∙ ap refused (sym q)
+pub a_refusal : (e : told.Result End Refusal) {n : ℕ} → n ≡ number_of (result_of e) → 0 < n → result_of e ≡ refused n
+a_refusal e q h = number_refused (result_of e) (rw q at h) ∙ ap refused (sym q)
 
 -- ---- text at the front of the buffer
 
@@ -87,14 +78,20 @@ module _ (before : List ℕ) {after : List ℕ} {n : ℕ} where
     curve_refused few h e = (in_unfilled (curve_order kept g) (longest_curve kept.settings.buckets) (curve_text kept g) before (curve_text kept g)
         (λ w. omega (arith, (buckets_long kept.settings g w.1.0).counts_long)) e).0
 
+-- so that it is put
+pub refusal_put : (number place : ℕ) (before : List ℕ) {after : List ℕ} (r : told.Result ℕ Refusal) → longest_refused ≤ length before
+    → outcome (result_of r) after ≡ refused_in number place before → IsOk r
+refusal_put number place before (Ok n) room e = refl
+refusal_put number place before (Err why) room e = absurd (refusal_fits before number place room e)
+
 -- ---- between reads
 
 pub follows_none : (s : Tracker) → Follows s [] 0 s []
-follows_none s = record { end = whole; reached = record { is = feed_none [] s refl; rest_is = refl } }
+follows_none s = record { end = Whole; reached = record { is = feed_none [] s refl; rest_is = refl } }
 
 module _ {first s : Tracker} {input rest : List ℕ} {place : ℕ} {why : Result End} (r : Reached first input place why s rest) where
-  pub reached_follows : Ends why → Follows first input place s rest
-  reached_follows e = record { end = e.end; reached = rw e.is at r }
+  pub reached_follows : (end : End) → why ≡ gives end → Follows first input place s rest
+  reached_follows end e = record { end = end; reached = rw e at r }
 
   pub reached_refused : {m : ℕ} → why ≡ refused m → {buffer : List ℕ} {n : ℕ} → Stands (refused_line m place) buffer n
       → Refuses first input × Stands (text_from first input) buffer n
@@ -108,12 +105,12 @@ module _ {first s : Tracker} {input rest : List ℕ} {place : ℕ} (w : Follows 
   rest_length = ap length (sym w.reached.rest_is) ∙ length-drop place input
 
   within : (e : End) → Untaken (gives e) (length input) place → place ≤ length input
-  within whole u = omega arith
-  within inside u = omega arith
+  within Whole u = omega arith
+  within Inside u = omega arith
 
   short : (e : End) → Untaken (gives e) (length input) place → length rest < 18
-  short whole u = omega (arith, rest_length)
-  short inside u = omega (arith, rest_length)
+  short Whole u = omega (arith, rest_length)
+  short Inside u = omega (arith, rest_length)
 
   -- less than an event is left
   pub follows_short : length rest < 18
@@ -121,8 +118,8 @@ module _ {first s : Tracker} {input rest : List ℕ} {place : ℕ} (w : Follows 
 
   at_end : (e : End) → Untaken (gives e) (length input) place
       → end_text (gives e) place s ≡ last_text (length rest) place s.kept s.tables.histogram
-  at_end whole u = rw (le-ltb 0 (length rest) (omega (arith, rest_length)))
-  at_end inside u = rw (lt-ltb 0 (length rest) (omega (arith, rest_length)))
+  at_end Whole u = rw (le-ltb 0 (length rest) (omega (arith, rest_length)))
+  at_end Inside u = rw (lt-ltb 0 (length rest) (omega (arith, rest_length)))
 
   -- at the end of the input
   pub follows_end : {l : ℕ} → length rest ≡ l → {buffer : List ℕ} {n : ℕ}
@@ -146,9 +143,10 @@ taken_most bytes s e = rw e (taken_within bytes s)
 -- ---- one read
 
 -- the program goes on after a pause, or has a result
-abbrev pub Leads : (first : Tracker) → Pause → Next → (buffer : List ℕ) → Tables → Type 0
-Leads first p (next.On q) buffer t = Later p q × Followed first q buffer t
-Leads first p (next.Over d) buffer t = Tells first d buffer t
+abbrev pub Leads : (first : Tracker) → Pause → told.Result Next Error → (buffer : List ℕ) → Tables → Type 0
+Leads first p (Ok (Continue q)) buffer t = Later p q × Followed first q buffer t
+Leads first p (Ok (Break n)) buffer t = Tells first (Ok n) buffer t
+Leads first p (Err e) buffer t = Tells first (Err (stop.Failed e)) buffer t
 
 -- so it does after a read, by what it came to, for the input with what came
 module _ {first : Tracker} {p : Pause} {t : Tables} {buffer : List ℕ} (ready : Ready p) (f : Followed first p buffer t)
@@ -156,28 +154,26 @@ module _ {first : Tracker} {p : Pause} {t : Tables} {buffer : List ℕ} (ready :
   longer : ℕ → List ℕ
   longer n = f.input ++ take n (drop p.left buffer)
 
-  leads : (c : Came) (r : Next) → AfterRead p t buffer c r exit after → Leads first p r exit after
+  leads : (c : Came) (r : told.Result Next Error) → AfterRead p t buffer c r exit after → Leads first p r exit after
   unfolding longer
-  leads (came.Bytes n) (next.On q) a = let o = a first f.input f.paused in (o.0, record { input = longer n; paused = o.1 })
-  leads (came.Bytes n) (next.Over (done.Text m)) a = record { input = longer n; stands = (a first f.input f.paused).1 }
-  leads (came.Bytes n) (next.Over (done.Failed e)) a = absurd (a first f.input f.paused)
-  leads (came.Bytes n) (next.Over done.Unending) a = absurd (a first f.input f.paused)
-  leads came.End (next.On q) a = absurd (a first f.input f.paused)
-  leads came.End (next.Over (done.Text m)) a = record { input = f.input; stands = a first f.input f.paused }
-  leads came.End (next.Over (done.Failed e)) a = absurd (a first f.input f.paused)
-  leads came.End (next.Over done.Unending) a = absurd (a first f.input f.paused)
-  leads came.Again r a = rw (a.0, a.1, a.2) (
+  leads (some_bytes n) (Ok (Continue q)) a = let o = a first f.input f.paused in (o.0, record { input = longer n; paused = o.1 })
+  leads (some_bytes n) (Ok (Break m)) a = record { input = longer n; stands = (a first f.input f.paused).1 }
+  leads (some_bytes n) (Err e) a = absurd a
+  leads no_more (Ok (Continue q)) a = absurd (a first f.input f.paused)
+  leads no_more (Ok (Break m)) a = record { input = f.input; stands = a first f.input f.paused }
+  leads no_more (Err e) a = absurd a
+  leads once_more r a = rw (a.0, a.1, a.2) (
     record { short = ready.short; further = omega arith; most = omega arith; same = refl },
     record { input = f.input; paused = f.paused },
   )
-  leads (came.Failed e) r a = rw (a.0, a.1, a.2) (record { pause = p; followed = f })
+  leads (failure e) r a = rw (a.0, a.1, a.2) (record { pause = p; followed = f })
 
 -- the same pause, with one more read counted
 abbrev pub counted : Pause → Pause
 counted p = record { kept = p.kept; left = p.left; place = p.place; reads = p.reads + 1 }
 
 -- the read leaves what was left over, so that the input so far is still followed
-pub read_leads : {first : Tracker} {p : Pause} {t after : Tables} {before exit : List ℕ} {r s : Next} → Ready (counted p)
+pub read_leads : {first : Tracker} {p : Pause} {t after : Tables} {before exit : List ℕ} {r s : told.Result Next Error} → Ready (counted p)
     → Followed first p before t → OneRead (counted p) t before r exit after → r ≡ s → Leads first (counted p) s exit after
 read_leads {first} {p} {t} {after} {before} {exit} {r} ready f o e =
     let still : Followed first (counted p) o.buffer t = record { input = f.input; paused = rw o.front f.paused } in
@@ -189,15 +185,15 @@ module _ (t after : Tables) where
   pub tells_started : (kept : Record) (left : Tables) (r : Done) (buffer : List ℕ)
       → record { result = gives kept; left = left } ≡ setup_of first_settings t
       → Tells (record { kept = kept; tables = left }) r buffer after → TellsOver t r buffer after
-  tells_started kept left (done.Text n) buffer e h = record {
+  tells_started kept left (Ok n) buffer e h = record {
     input = h.input;
     stands = record {
       is = h.stands.is ∙ ap (λ (z : Outcome Record Tables). text_after z.result z.left h.input) e;
       fits = h.stands.fits;
     };
   }
-  tells_started kept left (done.Failed w) buffer e h = record { first = record { kept = kept; tables = left }; is = sym e; holds = h }
-  tells_started kept left done.Unending buffer e h = record { first = record { kept = kept; tables = left }; is = sym e; holds = h }
+  tells_started kept left (Err (stop.Failed w)) buffer e h = record { first = record { kept = kept; tables = left }; is = sym e; holds = h }
+  tells_started kept left (Err stop.Unending) buffer e h = record { first = record { kept = kept; tables = left }; is = sym e; holds = h }
 
 pub tells_refused : (t after : Tables) (n : ℕ) {buffer : List ℕ} {m : ℕ} → record { result = refused n; left = after } ≡ setup_of first_settings t
     → Stands (refused_line n 0) buffer m → Prints (text_over t) buffer m
@@ -206,6 +202,5 @@ tells_refused t after n e a =
 
 -- what is told of the program's own tables
 pub printing : (d : Done) (buffer : List ℕ) (after : Tables) → TellsOver first_tables d buffer after → Printing d buffer
-printing (done.Text n) buffer after h = h
-printing (done.Failed e) buffer after h = tt
-printing done.Unending buffer after h = tt
+printing (Ok n) buffer after h = h
+printing (Err s) buffer after h = tt

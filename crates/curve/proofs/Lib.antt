@@ -1,4 +1,3 @@
-pub mod Laws
 pub mod Coming
 pub mod Input
 pub mod Printed

@@ -14,7 +14,8 @@ use Rattle.rules.specs.Calls.{setup_of}
 use Rattle.rules.proofs.Events.{read_empty}
 use Rattle.rules.proofs.Calls.{setup_accept}
 use Rattle.demands.specs.Runs.{setup, onto}
-use Rattle.feed.specs.Feed.{whole, feed_of}
+use Rattle.feed.specs.declared.End.TheVariants.{Whole}
+use Rattle.feed.specs.Feed.{feed_of}
 use Rattle.feed.specs.Past.{references_next, Ran, past_of}
 use Rattle.feed.proofs.Pieces.{Untaken, untaken}
 use Rattle.feed.proofs.Runs.{ran}
@@ -41,9 +42,9 @@ no_front [] rest e = refl
 no_front (x ∷ made) rest e = absurd (omega (arith, ap length e))
 
 -- where the input ends after a whole event, no event was refused
-none_made : (input : List ℕ) (r : Ran input start (feed_of input start)) → (feed_of input start).result ≡ gives whole → r.made ≡ []
+none_made : (input : List ℕ) (r : Ran input start (feed_of input start)) → (feed_of input start).result ≡ gives Whole → r.made ≡ []
 none_made input r e =
-    let all : Untaken (gives whole) (length input) (feed_of input start).taken = rw e at (untaken input start) in
+    let all : Untaken (gives Whole) (length input) (feed_of input start).taken = rw e at (untaken input start) in
     no_front r.made r.rest
     (r.first_part ∙ ap references_next (read_empty (drop (feed_of input start).taken input) (rw length-drop (omega (arith, all)))))
 

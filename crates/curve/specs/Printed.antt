@@ -6,7 +6,8 @@ use Rattle.rules.specs.Layout.{Tracker, fresh}
 use Rattle.demands.specs.Runs.{Run, onto}
 use Rattle.text.specs.Text.{curve_text}
 use Rattle.text.specs.OfRun.{Printable}
-use Rattle.feed.specs.Feed.{whole, feed_of}
+use Rattle.feed.specs.declared.End.TheVariants.{Whole}
+use Rattle.feed.specs.Feed.{feed_of}
 use Rattle.feed.specs.Past.{past_of, Ran}
 use Rattle.curve.specs.Program.{first_settings, first_tables, program_of}
 
@@ -20,7 +21,7 @@ start = fresh (with_defaults first_settings) first_tables
 pub record Printed (input : List ℕ) : Type 0 where
   pub ran : Ran input start (feed_of input start)
   pub run : Run (onto ran.made (past_of ran.events [])) (feed_of input start).left
-  pub none_refused : (feed_of input start).result ≡ gives whole → ran.made ≡ []
-  pub text : (feed_of input start).result ≡ gives whole
+  pub none_refused : (feed_of input start).result ≡ gives Whole → ran.made ≡ []
+  pub text : (feed_of input start).result ≡ gives Whole
       → program_of input ≡ curve_text (feed_of input start).left.kept (feed_of input start).left.tables.histogram
   pub lines : Printable (feed_of input start).left.kept (feed_of input start).left.tables.histogram

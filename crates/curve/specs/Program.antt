@@ -7,6 +7,8 @@ use Rattle.std.specs.declared.result.Result as told
 use Rattle.std.specs.declared.io.Error.{Error}
 use Rattle.std.specs.declared.io.ErrorKind.{ErrorKind}
 use Rattle.std.specs.declared.io.ErrorKind.TheVariants as kind
+use Rattle.std.specs.declared.ops.ControlFlow.{ControlFlow}
+use Rattle.std.specs.declared.ops.ControlFlow.TheVariants.{Continue, Break}
 use Rattle.std.specs.IoError.{error_kind}
 use Rattle.rules.specs.declared.Record.{Record}
 use Rattle.rules.specs.declared.Settings.{Settings}
@@ -16,15 +18,13 @@ use Rattle.rules.specs.Order.{outcome}
 use Rattle.rules.specs.Layout.{Tracker, tables_of}
 use Rattle.rules.specs.Calls.{setup_of}
 use Rattle.text.specs.Text.{refused_line, curve_of}
-use Rattle.feed.specs.declared.Fed.{Fed}
-use Rattle.feed.specs.Feed.{End, whole, inside, ending_result, feed_of}
-use Rattle.curve.specs.declared.Came.{Came}
-use Rattle.curve.specs.declared.Came.TheVariants as came
-use Rattle.curve.specs.declared.Done.{Done}
-use Rattle.curve.specs.declared.Done.TheVariants as done
+use Rattle.feed.specs.declared.End.{End}
+use Rattle.feed.specs.declared.End.TheVariants.{Whole, Inside}
+use Rattle.feed.specs.Feed.{feed_of}
+use Rattle.curve.specs.declared.Memory.{Memory}
+use Rattle.curve.specs.declared.Stop.{Stop}
+use Rattle.curve.specs.declared.Stop.TheVariants as stop
 use Rattle.curve.specs.declared.Pause.{Pause}
-use Rattle.curve.specs.declared.Next.{Next}
-use Rattle.curve.specs.declared.Next.TheVariants as next
 
 -- the program begins with all settings 0 and hash kind 1
 abbrev pub first_settings : Settings
@@ -34,6 +34,10 @@ first_settings = record { limit = 0; start = 0; width = 0; buckets = 0; hashing 
 abbrev pub first_tables : Tables
 first_tables = tables_of (replicate 1024 0) (replicate 1026 0) (replicate 1026 0)
 
+-- the tables that the program's memory holds
+abbrev pub tables_in : Memory → Tables
+tables_in m = tables_of m.locations m.counts m.thresholds
+
 -- the text of a curve; if the curve is refused, the line for an event refused at this place
 abbrev pub or_refused : Result (List ℕ) → (place : ℕ) → List ℕ
 or_refused (refused n) place = refused_line n place
@@ -42,8 +46,8 @@ or_refused (gives text) place = text
 -- at the end of the input an incomplete event is refused 7; places are counted from the start of the input
 abbrev pub end_text : Result End → (place : ℕ) → Tracker → List ℕ
 end_text (refused n) place s = refused_line n place
-end_text (gives inside) place s = refused_line 7 place
-end_text (gives whole) place s = or_refused (curve_of s.kept s.tables.histogram) place
+end_text (gives Inside) place s = refused_line 7 place
+end_text (gives Whole) place s = or_refused (curve_of s.kept s.tables.histogram) place
 
 -- the same for an input of which no event is refused, by how many bytes are left over at its end
 abbrev pub last_text : (left place : ℕ) → Record → Histogram → List ℕ
@@ -75,13 +79,28 @@ interruption _ = false
 abbrev pub interrupted : Error → Bool
 interrupted error = interruption (error_kind error)
 
+-- what a read came to: bytes, the end of the input, an interruption, or a failure with an error
+pub data Came : Type 0 where
+  some_bytes : ℕ → Came
+  no_more : Came
+  once_more : Came
+  failure : Error → Came
+
 -- what a read came to, by what it returned: so many bytes, but never more than there was room for; 0 is the end of the input; an error is an
 -- interruption or else a failure with that error
 abbrev pub came_of : (got : told.Result ℕ Error) → (room : ℕ) → Came
-came_of (Ok n) room = cond (eqb n 0) came.End (came.Bytes (min n room))
-came_of (Err e) room = cond (interrupted e) came.Again (came.Failed e)
+came_of (Ok n) room = cond (eqb n 0) no_more (some_bytes (min n room))
+came_of (Err e) room = cond (interrupted e) once_more (failure e)
 
 -- ---- between reads
+
+-- what follows a read: another one after a pause, or a text of so many bytes at the front of the buffer
+abbrev pub Next : Type 0
+Next = ControlFlow ℕ Pause
+
+-- the result of the program: such a text, or why there is none
+abbrev pub Done : Type 0
+Done = told.Result ℕ Stop
 
 -- the first n bytes of a buffer are the text
 pub record Stands (text buffer : List ℕ) (n : ℕ) : Type 0 where
@@ -121,24 +140,13 @@ pub record Later (p q : Pause) : Type 0 where
 
 -- this input was fed: the program goes on if no event was refused; otherwise the result is the text for the input
 abbrev pub Feeds : (first : Tracker) (input : List ℕ) → Pause → Next → (buffer : List ℕ) → Tables → Type 0
-Feeds first input p (next.On q) buffer t = Later p q × Paused first input q t buffer
-Feeds first input p (next.Over (done.Text n)) buffer t = Refuses first input × Stands (text_from first input) buffer n
-Feeds first input p (next.Over (done.Failed e)) buffer t = ⊥
-Feeds first input p (next.Over done.Unending) buffer t = ⊥
+Feeds first input p (Continue q) buffer t = Later p q × Paused first input q t buffer
+Feeds first input p (Break n) buffer t = Refuses first input × Stands (text_from first input) buffer n
 
 -- the input is at its end: the result is its text
 abbrev pub Finishes : (first : Tracker) (input : List ℕ) → Next → (buffer : List ℕ) → Type 0
-Finishes first input (next.On q) buffer = ⊥
-Finishes first input (next.Over (done.Text n)) buffer = Stands (text_from first input) buffer n
-Finishes first input (next.Over (done.Failed e)) buffer = ⊥
-Finishes first input (next.Over done.Unending) buffer = ⊥
-
--- after feeding these bytes
-abbrev pub AfterFed : Pause → Fed → (bytes : List ℕ) → Next → (buffer : List ℕ) → Type 0
-AfterFed p fed bytes r buffer =
-    (first : Tracker) (input : List ℕ) (t : Tables)
-    → Reached first input (p.place + fed.taken) (ending_result fed.ending) (record { kept = fed.kept; tables = t }) (drop fed.taken bytes)
-    → Feeds first input p r buffer t
+Finishes first input (Continue q) buffer = ⊥
+Finishes first input (Break n) buffer = Stands (text_from first input) buffer n
 
 -- after so many bytes came: whatever the input was so far, it is now longer by the bytes that stand in the buffer behind those left over
 abbrev pub AfterBytes : Pause → Tables → (buffer : List ℕ) → (count : ℕ) → Next → (exit : List ℕ) → Tables → Type 0
@@ -147,16 +155,18 @@ AfterBytes p t buffer count r exit after =
 
 -- after a read that left this buffer, by what it came to; after an interrupted or a failed one, nothing is changed, and the error of a failed
 -- one is the result's
-abbrev pub AfterRead : Pause → Tables → (buffer : List ℕ) → Came → Next → (exit : List ℕ) → Tables → Type 0
-AfterRead p t buffer (came.Bytes n) r exit after = AfterBytes p t buffer n r exit after
-AfterRead p t buffer came.End r exit after = (first : Tracker) (input : List ℕ) → Paused first input p t buffer → Finishes first input r exit
-AfterRead p t buffer came.Again r exit after = (r ≡ next.On p) × (exit ≡ buffer) × (after ≡ t)
-AfterRead p t buffer (came.Failed e) r exit after = (r ≡ next.Over (done.Failed e)) × (exit ≡ buffer) × (after ≡ t)
+abbrev pub AfterRead : Pause → Tables → (buffer : List ℕ) → Came → told.Result Next Error → (exit : List ℕ) → Tables → Type 0
+AfterRead p t buffer (some_bytes n) (Ok r) exit after = AfterBytes p t buffer n r exit after
+AfterRead p t buffer (some_bytes n) (Err e) exit after = ⊥
+AfterRead p t buffer no_more (Ok r) exit after = (first : Tracker) (input : List ℕ) → Paused first input p t buffer → Finishes first input r exit
+AfterRead p t buffer no_more (Err e) exit after = ⊥
+AfterRead p t buffer once_more r exit after = (r ≡ Ok (Continue p)) × (exit ≡ buffer) × (after ≡ t)
+AfterRead p t buffer (failure e) r exit after = (r ≡ Err e) × (exit ≡ buffer) × (after ≡ t)
 
 -- ---- some input: from here on it is not said which bytes were read
 
 -- some read left the bytes at the front of the buffer as they were; what follows it is right for what it put behind them
-pub record OneRead (p : Pause) (t : Tables) (before : List ℕ) (r : Next) (exit : List ℕ) (after : Tables) : Type 0 where
+pub record OneRead (p : Pause) (t : Tables) (before : List ℕ) (r : told.Result Next Error) (exit : List ℕ) (after : Tables) : Type 0 where
   pub buffer : List ℕ
   pub front : take p.left buffer ≡ take p.left before
   pub got : told.Result ℕ Error
@@ -184,9 +194,9 @@ pub record TooLong (first : Tracker) (buffer : List ℕ) (t : Tables) : Type 0 w
 
 -- a result that is a text is the text for some input; otherwise some input was followed, and nothing is printed of it
 abbrev pub Tells : (first : Tracker) → Done → (buffer : List ℕ) → Tables → Type 0
-Tells first (done.Text n) buffer t = Prints (text_from first) buffer n
-Tells first (done.Failed e) buffer t = Stopped first buffer t
-Tells first done.Unending buffer t = TooLong first buffer t
+Tells first (Ok n) buffer t = Prints (text_from first) buffer n
+Tells first (Err (stop.Failed e)) buffer t = Stopped first buffer t
+Tells first (Err stop.Unending) buffer t = TooLong first buffer t
 
 -- the first setup is accepted, and this holds from the state that it leaves
 pub record Begins (t : Tables) (P : Tracker → Type 0) : Type 0 where
@@ -196,12 +206,11 @@ pub record Begins (t : Tables) (P : Tracker → Type 0) : Type 0 where
 
 -- the same from the first setup on
 abbrev pub TellsOver : Tables → Done → (buffer : List ℕ) → Tables → Type 0
-TellsOver t (done.Text n) buffer after = Prints (text_over t) buffer n
-TellsOver t (done.Failed e) buffer after = Begins t (λ first. Stopped first buffer after)
-TellsOver t done.Unending buffer after = Begins t (λ first. TooLong first buffer after)
+TellsOver t (Ok n) buffer after = Prints (text_over t) buffer n
+TellsOver t (Err (stop.Failed e)) buffer after = Begins t (λ first. Stopped first buffer after)
+TellsOver t (Err stop.Unending) buffer after = Begins t (λ first. TooLong first buffer after)
 
 -- what is printed is what the program prints for some input
 abbrev pub Printing : Done → (buffer : List ℕ) → Type 0
-Printing (done.Text n) buffer = Prints program_of buffer n
-Printing (done.Failed e) buffer = Unit {0}
-Printing done.Unending buffer = Unit {0}
+Printing (Ok n) buffer = Prints program_of buffer n
+Printing (Err s) buffer = Unit {0}

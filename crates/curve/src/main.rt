@@ -1,48 +1,60 @@
 // Reads trace events from standard input until it ends, and prints the curve. Document 01, "The curve program".
 #![tactic(auto)]
 
-ghost use Rattle.std.specs.Prelude.{◌≡◌, ◌+◌, ◌-◌, ◌≤◌, ◌<◌, length, take, drop};
-ghost use Rattle.rules.specs.Answers.{number_of};
-ghost use Rattle.rules.specs.Layout.{tables_of, tracker, buckets_of};
-ghost use Rattle.text.specs.Text.{refused_line, longest_refused, curve_of};
-ghost use Rattle.feed.specs.Feed.{ending_result};
-ghost use Rattle.curve.specs.Program.{first_settings, or_refused, last_text, came_of, Stands, Ready, AfterFed, AfterBytes, AfterRead};
-ghost use Rattle.curve.specs.Program.{OneRead, Tells, TellsOver, Printing};
+ghost use Rattle.std.specs.Prelude.{◌≡◌, ◌+◌, ◌-◌, ◌≤◌, length, take, drop};
+ghost use Rattle.rules.specs.Answers.{number};
+ghost use Rattle.text.specs.Text.{refused_line, curve_of};
+ghost use Rattle.curve.specs.declared.Stop.TheVariants.{Failed};
+ghost use Rattle.curve.specs.Program.{first_settings, tables_in, came_of, or_refused, last_text, Stands, Ready};
+ghost use Rattle.curve.specs.Program.{AfterBytes, AfterRead, OneRead, Tells, TellsOver, Printing};
 
-use feed::{Ending, Fed};
-use rules::{Hashing, Record, Settings, Started, Written};
-use std::io;
+use rules::{Hashing, Record, Refusal, Settings};
 use std::io::{ErrorKind, Read, Stdin, Write};
+use std::ops::ControlFlow;
+use std::{fmt, io};
 
 // The bytes taken and the reads made are counted together, and at 2^64 - 65,537 the program gives up. After one read at most 65,536
 // bytes are taken, so that the sum never overflows.
 const MOST_COUNTED: u64 = 0xffff_ffff_fffe_ffff;
 
-// ---- the input, read in pieces
+// The number of bytes that the buffer holds.
+const BUFFER: usize = 65536;
 
-// The result of one read.
-#[derive(Clone, Copy)]
-enum Came {
-    // So many bytes were read.
-    Bytes(usize),
-    // The input is at its end.
-    End,
-    // The read was interrupted.
-    Again,
-    // The read failed, with this error.
-    Failed(io::Error),
+// The tables, in memory of fixed size.
+#[derive(Drop)]
+struct Memory {
+    locations: [u64; 1024],
+    counts: [u64; 1026],
+    thresholds: [u32; 1026],
 }
 
-// The result of the program: a text at the front of the buffer, a failed read, or an input too long to count.
+// Why there is no text to print.
 #[derive(Clone, Copy)]
-enum Done {
-    // The text to print, of this length.
-    Text(usize),
+enum Stop {
     // A read failed, with this error.
     Failed(io::Error),
     // The input was too long to count.
     Unending,
 }
+
+impl From<io::Error> for Stop {
+    ghost from_gives = { λ error stop. stop ≡ Failed error };
+
+    fn from(error: io::Error) -> Stop {
+        Stop::Failed(error)
+    }
+}
+
+impl fmt::Display for Stop {
+    fn fmt<W: fmt::Write>(&self, f: &mut fmt::Formatter<W>) -> fmt::Result {
+        match self {
+            Stop::Failed(error) => write!(f, "{error}"),
+            Stop::Unending => write!(f, "too long"),
+        }
+    }
+}
+
+// ---- the input, read in pieces
 
 // The state between reads: the record; how many bytes are left over, at the front of the buffer; the place of the first of them in
 // the input; and how many reads were made.
@@ -54,167 +66,101 @@ struct Pause {
     reads: u64,
 }
 
-// What follows a read: another read, or the result of the program.
+// One turn: a pause, with the read that follows it counted. There is room for that read, and to count the bytes that it may bring.
 #[derive(Clone, Copy)]
-enum Next {
-    // Another read.
-    On(Pause),
-    // Nothing more is read.
-    Over(Done),
+struct Turn {
+    pause: Pause,
+    ghost ready: { Ready pause },
 }
 
-// What a read came to: `got` is what it returned, and `part` was lent to it.
-fn came_of(got: io::Result<usize>, part: &[u8]) -> Came
-    ensures { result ≡ came_of got (length part.now) }
-{
-    match got {
-        Ok(0) => Came::End,
-        Ok(count) => Came::Bytes(count.min(part.len())),
-        Err(error) => {
-            if error.kind() == ErrorKind::Interrupted {
-                return Came::Again;
-            }
-            Came::Failed(error)
-        }
-    }
-}
+// What follows a read: another read from a pause, or the end, with a text of so many bytes at the front of the buffer.
+type Next = ControlFlow<usize, Pause>;
 
 // Moves the bytes from `from` to `end` to the front, and returns how many there are.
-fn to_front(buffer: &mut [u8], from: usize, end: usize) -> usize
-    requires { (from ≤ end) × (end ≤ length buffer.old) }
+fn to_front(buffer: &mut [u8; BUFFER], from: usize, end: usize) -> usize
+    requires { (from ≤ end) × (end ≤ 65536) }
     ensures value { result ≡ end - from }
     ensures buffer_after { take result buffer.new ≡ drop from (take end buffer.old) }
 {
     let count = end - from;
-    let mut i: usize = 0;
-    while i < count {
-        buffer[i] = buffer[from + i];
-        i += 1;
-    }
+    buffer.copy_within(from..end, 0);
     count
 }
 
-// Writes the line for a refused event and returns its length.
-fn put_refusal(out: &mut [u8], number: u64, place: u64) -> usize
-    requires { longest_refused ≤ length out.old }
-    ensures { Stands (refused_line number place) out.new result }
+// Writes the line for a refused event, for which there is room, and returns its length.
+fn put_refusal(out: &mut [u8; BUFFER], why: Refusal, place: u64) -> usize
+    ensures { Stands (refused_line (number why) place) out.new result }
 {
-    match text::put_refused_line(out, number, place) {
-        Written::Filled(count) => count,
-        Written::Refused(_) => 0,
-    }
+    text::put_refused_line(out, why.into(), place).unwrap()
 }
 
 // Writes the curve and returns its length; if the curve is refused, the line for that.
-fn put_curve_or_refusal(
-    out: &mut [u8],
-    kept: Record,
-    place: u64,
-    counts: &[u64],
-    thresholds: &[u32],
-) -> usize
-    requires { (length counts.now ≤ 1026) × (65536 ≤ length out.old) }
-    ensures { Stands (or_refused (curve_of kept (buckets_of counts.now thresholds.now)) place) out.new result }
+fn put_curve_or_refusal(out: &mut [u8; BUFFER], kept: Record, place: u64, memory: &Memory) -> usize
+    ensures { Stands (or_refused (curve_of kept (tables_in memory.now).histogram) place) out.new result }
 {
-    match text::put_curve(out, kept, counts, thresholds) {
-        Written::Filled(count) => count,
-        Written::Refused(why) => put_refusal(out, judge::number_of(why), place),
+    match text::put_curve(out, kept, &memory.counts, &memory.thresholds) {
+        Ok(count) => count,
+        Err(why) => put_refusal(out, why, place),
     }
 }
 
 // Writes what is printed at the end of the input. Bytes left over are an incomplete event.
-fn put_end(
-    out: &mut [u8],
-    kept: Record,
-    left: usize,
-    place: u64,
-    counts: &[u64],
-    thresholds: &[u32],
-) -> usize
-    requires { (length counts.now ≤ 1026) × (65536 ≤ length out.old) }
-    ensures { Stands (last_text left place kept (buckets_of counts.now thresholds.now)) out.new result }
+fn put_end(out: &mut [u8; BUFFER], p: Pause, memory: &Memory) -> usize
+    ensures { Stands (last_text p.left p.place p.kept (tables_in memory.now).histogram) out.new result }
 {
-    if 0 < left {
-        return put_refusal(out, 7, place);
+    if 0 < p.left {
+        return put_refusal(out, Refusal::Short, p.place);
     }
-    put_curve_or_refusal(out, kept, place, counts, thresholds)
+    put_curve_or_refusal(out, p.kept, p.place, memory)
 }
 
-// The number of the refusal that stopped feeding, or 0 if there was none.
-fn refusal_in(ending: Ending) -> u64
-    ensures { result ≡ number_of (ending_result ending) }
+// Feeds the bytes left over and those that came after them. A refused event ends the program; otherwise the bytes that were not taken are
+// kept for the next read.
+fn after_bytes(turn: Turn, count: usize, buffer: &mut [u8; BUFFER], memory: &mut Memory) -> Next
+    requires { turn.pause.left + count ≤ 65536 }
+    ensures { AfterBytes turn.pause (tables_in memory.old) buffer.old count result buffer.new (tables_in memory.new) }
 {
-    match ending {
-        Ending::Refused(why) => judge::number_of(why),
-        Ending::Whole => 0,
-        Ending::Inside => 0,
-    }
-}
-
-// What follows feeding: a refused event ends the program; otherwise the bytes that were not taken are kept for the next read.
-fn after_fed(p: Pause, fed: Fed, end: usize, buffer: &mut [u8]) -> Next
-    requires { Ready p × (fed.taken ≤ end) × (end ≤ 65536) × (length buffer.old ≡ 65536) }
-    ensures { AfterFed p fed (take end buffer.old) result buffer.new }
-{
-    let kept = fed.kept;
-    let taken = fed.taken;
-    let ending = fed.ending;
-    let number = refusal_in(ending);
-    let place = p.place + taken as u64;
-    let reads = p.reads;
-    if 0 < number {
-        return Next::Over(Done::Text(put_refusal(buffer, number, place)));
-    }
-    let left = to_front(buffer, taken, end);
-    Next::On(Pause {
-        kept,
-        left,
-        place,
-        reads,
-    })
-}
-
-// Feeds the bytes left over and those that came after them.
-fn after_bytes(
-    p: Pause,
-    count: usize,
-    buffer: &mut [u8],
-    locations: &mut [u64],
-    counts: &mut [u64],
-    thresholds: &mut [u32],
-) -> Next
-    requires { Ready p × (p.left + count ≤ 65536) × (length buffer.old ≡ 65536) }
-    ensures { AfterBytes p (tables_of locations.old counts.old thresholds.old) buffer.old count
-        result buffer.new (tables_of locations.new counts.new thresholds.new) }
-{
+    let p = turn.pause;
     let end = p.left + count;
-    let kept = p.kept;
-    let fed = feed::feed(kept, &buffer[..end], locations, counts, thresholds);
-    after_fed(p, fed, end, buffer)
+    let mut kept = p.kept;
+    let fed = feed::feed(
+        &mut kept,
+        &buffer[..end],
+        &mut memory.locations,
+        &mut memory.counts,
+        &mut memory.thresholds,
+    );
+    let place = p.place + fed.taken as u64;
+    let reads = p.reads;
+    match fed.ending {
+        Ok(_) => {
+            let left = to_front(buffer, fed.taken, end);
+            ControlFlow::Continue(Pause {
+                kept,
+                left,
+                place,
+                reads,
+            })
+        }
+        Err(why) => ControlFlow::Break(put_refusal(buffer, why, place)),
+    }
 }
 
-// Does everything that follows a read: `got` is what it returned.
+// Does everything that follows a read: `got` is what it returned. An interrupted one is made again.
 fn after_read(
-    p: Pause,
+    turn: Turn,
     got: io::Result<usize>,
-    buffer: &mut [u8],
-    locations: &mut [u64],
-    counts: &mut [u64],
-    thresholds: &mut [u32],
-) -> Next
-    requires { Ready p × (length buffer.old ≡ 65536) × (length counts.old ≤ 1026) }
-    ensures { AfterRead p (tables_of locations.old counts.old thresholds.old) buffer.old
-        (came_of got (length buffer.old - p.left)) result buffer.new (tables_of locations.new counts.new thresholds.new) }
+    buffer: &mut [u8; BUFFER],
+    memory: &mut Memory,
+) -> io::Result<Next>
+    ensures { AfterRead turn.pause (tables_in memory.old) buffer.old (came_of got (length buffer.old - turn.pause.left)) result buffer.new (tables_in memory.new) }
 {
-    let kept = p.kept;
-    let left = p.left;
-    match came_of(got, &buffer[left..]) {
-        Came::Bytes(count) => after_bytes(p, count, buffer, locations, counts, thresholds),
-        Came::End => Next::Over(Done::Text(put_end(
-            buffer, kept, left, p.place, counts, thresholds,
-        ))),
-        Came::Again => Next::On(p),
-        Came::Failed(error) => Next::Over(Done::Failed(error)),
+    let p = turn.pause;
+    match got {
+        Ok(0) => Ok(ControlFlow::Break(put_end(buffer, p, memory))),
+        Ok(count) => Ok(after_bytes(turn, count.min(BUFFER - p.left), buffer, memory)),
+        Err(error) if error.kind() == ErrorKind::Interrupted => Ok(ControlFlow::Continue(p)),
+        Err(error) => Err(error),
     }
 }
 
@@ -222,19 +168,15 @@ fn after_read(
 // proved: this is the only place that depends on it.
 fn one_read(
     input: &mut Stdin,
-    p: Pause,
-    buffer: &mut [u8],
-    locations: &mut [u64],
-    counts: &mut [u64],
-    thresholds: &mut [u32],
-) -> Next
-    requires { Ready p × (length buffer.old ≡ 65536) × (length counts.old ≤ 1026) }
-    ensures { OneRead p (tables_of locations.old counts.old thresholds.old) buffer.old
-        result buffer.new (tables_of locations.new counts.new thresholds.new) }
+    turn: Turn,
+    buffer: &mut [u8; BUFFER],
+    memory: &mut Memory,
+) -> io::Result<Next>
+    ensures { OneRead turn.pause (tables_in memory.old) buffer.old result buffer.new (tables_in memory.new) }
 {
-    let left = p.left;
-    let got = input.read(&mut buffer[left..]);
-    after_read(p, got, buffer, locations, counts, thresholds)
+    let p = turn.pause;
+    let got = input.read(&mut buffer[p.left..]);
+    after_read(turn, got, buffer, memory)
 }
 
 // Reads and feeds the input until there is a result. The promise is over some input: that these are the bytes of standard input is
@@ -242,32 +184,25 @@ fn one_read(
 fn follow(
     input: &mut Stdin,
     kept: Record,
-    buffer: &mut [u8],
-    locations: &mut [u64],
-    counts: &mut [u64],
-    thresholds: &mut [u32],
-) -> Done
-    requires { (length buffer.old ≡ 65536) × (length counts.old ≤ 1026) }
-    ensures { Tells (tracker kept locations.old counts.old thresholds.old) result buffer.new (tables_of locations.new counts.new thresholds.new) }
+    buffer: &mut [u8; BUFFER],
+    memory: &mut Memory,
+) -> Result<usize, Stop>
+    ensures { Tells (record { kept = kept; tables = tables_in memory.old }) result buffer.new (tables_in memory.new) }
 {
     let mut p = Pause {
-        kept: kept,
+        kept,
         left: 0,
         place: 0,
         reads: 0,
     };
     while p.place + p.reads < MOST_COUNTED {
         p.reads += 1;
-        match one_read(input, p, buffer, locations, counts, thresholds) {
-            Next::On(next) => {
-                p = next;
-            }
-            Next::Over(done) => {
-                return done;
-            }
+        match one_read(input, Turn { pause: p }, buffer, memory)? {
+            ControlFlow::Continue(next) => p = next,
+            ControlFlow::Break(count) => return Ok(count),
         }
     }
-    Done::Unending
+    Err(Stop::Unending)
 }
 
 fn first_settings() -> Settings
@@ -283,49 +218,42 @@ fn first_settings() -> Settings
 }
 
 // Runs the program: the first setup, then the input.
-fn run(
-    input: &mut Stdin,
-    buffer: &mut [u8],
-    locations: &mut [u64],
-    counts: &mut [u64],
-    thresholds: &mut [u32],
-) -> Done
-    requires { (length buffer.old ≡ 65536) × (length counts.old ≤ 1026) }
-    ensures { TellsOver (tables_of locations.old counts.old thresholds.old) result buffer.new (tables_of locations.new counts.new thresholds.new) }
+fn run(input: &mut Stdin, buffer: &mut [u8; BUFFER], memory: &mut Memory) -> Result<usize, Stop>
+    ensures { TellsOver (tables_in memory.old) result buffer.new (tables_in memory.new) }
 {
-    match setup::setup(first_settings(), locations, counts, thresholds) {
-        Started::Ready(kept) => follow(input, kept, buffer, locations, counts, thresholds),
-        Started::Refused(why) => { Done::Text(put_refusal(buffer, judge::number_of(why), 0)) }
+    match setup::setup(
+        first_settings(),
+        &memory.locations,
+        &mut memory.counts,
+        &mut memory.thresholds,
+    ) {
+        Ok(kept) => follow(input, kept, buffer, memory),
+        Err(why) => Ok(put_refusal(buffer, why, 0)),
     }
 }
 
 // Prints the text at the front of the buffer, or says on standard error why there is none.
-fn tell(rt: HostRuntime, done: Done, buffer: &[u8]) -> io::Result<()>
+fn tell(rt: HostRuntime, done: Result<usize, Stop>, buffer: &[u8]) -> io::Result<()>
     requires { Printing done buffer.now }
 {
     match done {
-        Done::Text(count) => {
+        Ok(count) => {
             if let Err(error) = rt.stdout().write_all(&buffer[..count]) {
                 eprintln!(rt; "curve: standard output: {error}")?;
             }
         }
-        Done::Failed(error) => eprintln!(rt; "curve: standard input: {error}")?,
-        Done::Unending => eprintln!(rt; "curve: standard input: too long")?,
+        Err(stop) => eprintln!(rt; "curve: standard input: {stop}")?,
     }
     Ok(())
 }
 
 fn main(rt: HostRuntime) -> io::Result<()> {
-    let mut locations = [0u64; 1024];
-    let mut counts = [0u64; 1026];
-    let mut thresholds = [0u32; 1026];
-    let mut buffer = [0u8; 65536];
-    let done = run(
-        &mut rt.stdin(),
-        &mut buffer,
-        &mut locations,
-        &mut counts,
-        &mut thresholds,
-    );
+    let mut memory = Memory {
+        locations: [0; 1024],
+        counts: [0; 1026],
+        thresholds: [0; 1026],
+    };
+    let mut buffer = [0; BUFFER];
+    let done = run(&mut rt.stdin(), &mut buffer, &mut memory);
     tell(rt, done, &buffer)
 }

@@ -1,12 +1,14 @@
 -- The buffer has room for the line, so that it is not refused.
-use Rattle.curve.proofs.Input.{refused_stands, refusal_fits}
+use native.Mathlib.Omega.{arith}
+use Rattle.curve.proofs.Input.{refused_stands, refusal_put}
 use Rattle.curve.proofs.put_refusal.Goals as goal
 
-pub returns-in-Filled : goal.returns-in-Filled
-returns-in-Filled c =
-    let args = c.args in
-    refused_stands args.out.now args.number args.place c.in-Filled.ensures
+pub unwrap-requires : goal.unwrap-requires
+unwrap-requires c =
+    refusal_put c.into.result c.args.place c.args.out.now c.put_refused_line.result (omega (arith, c.told-out)) c.put_refused_line.ensures
 
-pub returns-in-Refused : goal.returns-in-Refused
-returns-in-Refused c =
-    absurd (refusal_fits c.args.out.now c.args.number c.args.place c.requires c.in-Refused.ensures)
+pub returns : goal.returns
+returns c =
+    let args = c.args in
+    rw (← c.into.ensures)
+    (refused_stands args.out.now c.into.result args.place (rw c.unwrap.ensures at c.put_refused_line.ensures))
