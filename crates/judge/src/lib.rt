@@ -88,9 +88,5 @@ pub fn overruns(offset: u64, length: u32) -> bool
 pub fn is_stale(believed: Shape, s: Settings) -> bool
     ensures { result ≡ stale believed s }
 {
-    let own = Shape {
-        buckets: s.buckets,
-        width: s.width,
-    };
-    believed != own
+    believed != Shape::from(s)
 }

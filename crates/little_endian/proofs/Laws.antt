@@ -4,18 +4,18 @@ use Prim.Native.Nat.{ℕ, zero, suc, ◌+◌, ◌-◌, ◌/◌, ◌%◌, ◌^◌
 use mathlib.Core.Path.{◌≡◌, refl, sym, ap, ◌∙◌}
 use mathlib.Core.Bool.{false}
 use mathlib.Core.List.{List, [], ◌∷◌, ◌++◌}
-use native.Mathlib.Nat.{zero-add, add-zero, suc-add, add-suc, pow-suc, div-div-eq-div-mul}
+use native.Mathlib.Nat.{zero-add, add-zero, suc-add, pow-suc, div-div-eq-div-mul}
 use native.Mathlib.Omega.{arith}
 use lib.Dec.{leb}
 use lib.ListN.{length, get_or, take, drop, replicate}
-use lib.Seq.{sets, length-sets, get_or-drop, sets-eq}
+use lib.Seq.{sets, length-sets, sets-eq}
 use borrow.Author.Tests.{le-leb, lt-leb, leb-true, leb-false}
 use borrow.Rule.Slice.PartMut.{put_mid}
 use Rattle.std.proofs.lemmas.List.{length-take-le, append_assoc, length-drop, drop-drop, drop-replicate}
 use Rattle.std.specs.Int.{w64, byte_at, bytes_low_first, to_le_bytes, from_le_bytes}
 use Rattle.rules.specs.Events.{bytes_of, number_at, Bytes}
 use Rattle.rules.proofs.Tests.{cases}
-use Rattle.rules.proofs.LittleEndian.{sets_append, number_below}
+use Rattle.rules.proofs.LittleEndian.{sets_append, number_below, number_drop}
 use Rattle.little_endian.specs.InBytes.{got_from, put_into}
 
 -- ---- whether bytes are there
@@ -69,10 +69,6 @@ shifted : (n at y : ℕ) (l : List ℕ) → number_at n (suc at) (y ∷ l) ≡ n
 shifted zero at y l = refl
 shifted (suc n) at y l = rw (shifted n (suc at) y l)
 
-dropped : (n k at : ℕ) (s : List ℕ) → number_at n at (drop k s) ≡ number_at n (k + at) s
-dropped zero k at s = refl
-dropped (suc n) k at s = rw (get_or-drop k s at 0, dropped n k (suc at) s, add-suc k at)
-
 no_byte : (m i : ℕ) → ◌≡◌ {A = ℕ} (get_or (replicate m 0) i 0) 0
 no_byte zero i = refl
 no_byte (suc m) zero = refl
@@ -99,7 +95,7 @@ got_low n at s low {x} few there is from =
     let all : put_mid 0 n (replicate 8 0) low ≡ take n (drop at s) ++ replicate (8 - n) 0 = rw (own, drop-replicate {X = ℕ} n 8 0) in
     from ∙ all_bytes (put_mid 0 n (replicate 8 0) low) ∙ ap (number_at 8 0) all
     ∙ ap (λ (k : ℕ). number_at k 0 (take n (drop at s) ++ replicate (8 - n) 0)) fill
-    ∙ padded n (8 - n) (drop at s) (omega (arith, length-drop at s)) ∙ dropped n at 0 s ∙ rw add-zero
+    ∙ padded n (8 - n) (drop at s) (omega (arith, length-drop at s)) ∙ number_drop n at 0 s ∙ rw add-zero
 
 -- ---- the lowest bytes of a number
 

@@ -49,7 +49,7 @@ puts_two m n at x l =
 -- ---- a number is what its bytes hold
 
 -- the places of what is left of a list
-number_drop : (n k at : ℕ) (s : List ℕ) → number_at n at (drop k s) ≡ number_at n (k + at) s
+pub number_drop : (n k at : ℕ) (s : List ℕ) → number_at n at (drop k s) ≡ number_at n (k + at) s
 number_drop zero k at s = refl
 number_drop (suc n) k at s = rw (get_or-drop k s at 0, number_drop n k (suc at) s, add-suc k at)
 

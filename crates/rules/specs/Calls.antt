@@ -17,7 +17,7 @@ use Rattle.rules.specs.Answers.{Result, refused, gives}
 use Rattle.rules.specs.Order.{Outcome, outcome, Judged, ◌when◌, says, by_order}
 use Rattle.rules.specs.Events.{settings_of, references_of, overrun}
 use Rattle.rules.specs.Layout.{Tracker, sample_of, hash_for, profile_of, stored, fresh_tables, fresh_record}
-use Rattle.rules.specs.Conditions.{buckets_too_short, too_short, torn_record, torn_report, torn_for, full, stale}
+use Rattle.rules.specs.Conditions.{buckets_too_short, too_short, torn_record, torn_report, torn_for, full, shape_of, stale}
 use Rattle.rules.specs.History.{Reference}
 
 -- setup: 1, 2
@@ -70,7 +70,7 @@ point_of kept believed point g = says (point_order kept believed point g) (point
 
 -- the shape that the record itself has
 abbrev pub own_shape : Record → Shape
-own_shape kept = record { buckets = kept.settings.buckets; width = kept.settings.width }
+own_shape kept = shape_of kept.settings
 
 -- a point under the record's own shape
 abbrev pub own_point : Record → (point : ℕ) → Histogram → Result Point

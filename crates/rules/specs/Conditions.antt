@@ -65,6 +65,10 @@ full n = eqb n.references most_references
 
 -- ---- 5 Stale
 
+-- the shape of the curve under these settings
+abbrev pub shape_of : Settings → Shape
+shape_of s = record { buckets = s.buckets; width = s.width }
+
 -- the believed B or W differs from the tracker's
 abbrev pub stale : Shape → Settings → Bool
 stale b s = not (eqb b.buckets s.buckets) || not (eqb b.width s.width)

@@ -1,10 +1,11 @@
 // The types that the crates share: settings, the record, the answers, the trace events; and the numbers of document 01. The only functions
-// here turn one of these into another form: a refusal or a kind of event into its number, a byte into a kind, a body into settings.
+// here turn one of these into another form: a refusal or a kind of event into its number, a byte into a kind, a body into settings, settings into the curve's shape.
 #![tactic(auto)]
 
 ghost use Rattle.std.specs.Prelude.{◌≡◌};
 ghost use Rattle.rules.specs.Answers.{number, result_of};
 ghost use Rattle.rules.specs.Events.{settings_of};
+ghost use Rattle.rules.specs.Conditions.{shape_of};
 ghost use Rattle.rules.specs.Kinds.{kind_number, kind_of};
 
 // P, full rate: every hash is below it, so a threshold of P samples every location.
@@ -46,7 +47,7 @@ pub const RESTART_BYTES: usize = 1;
 
 pub const SETUP_BYTES: usize = 18;
 
-// The hash that is used for locations.
+// The hash that is used for locations. Its kind is a number, since C hands over any, and a setup refuses those above MOST_KIND.
 #[derive(Clone, Copy)]
 pub struct Hashing {
     pub kind: u64,
@@ -83,6 +84,17 @@ pub struct Record {
 pub struct Shape {
     pub buckets: u64,
     pub width: u64,
+}
+
+impl From<Settings> for Shape {
+    ghost from_gives = { λ settings shape. shape ≡ shape_of settings };
+
+    fn from(settings: Settings) -> Shape {
+        Shape {
+            buckets: settings.buckets,
+            width: settings.width,
+        }
+    }
 }
 
 // The refusals, each with its number.
@@ -160,12 +172,12 @@ impl From<SetupBody> for Settings {
 
     fn from(body: SetupBody) -> Settings {
         Settings {
-            limit: body.limit as u64,
-            start: body.start as u64,
-            width: body.width as u64,
-            buckets: body.buckets as u64,
+            limit: body.limit.into(),
+            start: body.start.into(),
+            width: body.width.into(),
+            buckets: body.buckets.into(),
             hashing: Hashing {
-                kind: body.kind as u64,
+                kind: body.kind.into(),
             },
         }
     }

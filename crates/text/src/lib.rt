@@ -111,11 +111,7 @@ impl<'a> Page<'a> {
 fn point_at(kept: Record, number: u64, counts: &[u64], thresholds: &[u32]) -> Result<Point, Refusal>
     ensures { result_of result ≡ own_point kept number (buckets_of counts.now thresholds.now) }
 {
-    let shape = Shape {
-        buckets: kept.settings.buckets,
-        width: kept.settings.width,
-    };
-    points::point(kept, shape, number, counts, thresholds)
+    points::point(kept, Shape::from(kept.settings), number, counts, thresholds)
 }
 
 // ---- at the front of a buffer
