@@ -1,4 +1,5 @@
-// The histogram in its two lent tables: each bucket's count, in units of 1/256 reference, and the threshold it was last recorded under.
+// The histogram in its two lent tables: each bucket's count, in units of 1/256 reference, and the threshold it was last recorded under. They
+// stay two, here and in all that is lent them: C lends them so, to some calls for reading only.
 #![tactic(auto)]
 
 ghost use Rattle.std.specs.Prelude.{◌≡◌, false, ◌≤◌, min, length};

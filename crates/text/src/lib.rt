@@ -116,7 +116,7 @@ fn point_at(kept: Record, number: u64, counts: &[u64], thresholds: &[u32]) -> Re
 
 // ---- at the front of a buffer
 
-// Writes a curve that is not refused, once it is known whether its total is 0.
+// Writes a curve that is not refused, once it is known whether its total is 0. (A closure that puts the rest would be no plainer than the flag.)
 fn put_given(
     out: &mut [u8],
     empty: bool,

@@ -82,7 +82,8 @@ fn word(words: &[u64], place: usize) -> u64
     words.get(place).copied().unwrap_or(0)
 }
 
-// The record that the words stand for, missing words being 0. Only this function and words_of know the order of the words.
+// The record that the words stand for, missing words being 0. Only this function and words_of know the order of the words. (Neither is a
+// From: the record and the words belong to other crates.)
 pub fn record_of(words: &[u64]) -> Record
     ensures { result ≡ record_of words.now }
 {
@@ -134,7 +135,8 @@ fn put(words: &mut [u64], kept: Record)
     words[..RECORD_WORDS].copy_from_slice(&words_of(kept));
 }
 
-// Stores the record that a call leaves, if it is said to have changed; otherwise nothing.
+// Stores the record that a call leaves, if it is said to have changed; otherwise nothing. The choice is here, since what is known of the
+// words would be lost where an `if` joins before the next call.
 pub fn store_if(words: &mut [u64], changed: bool, kept: Record)
     ensures { words.new ≡ stored_if changed kept words.old }
 {
@@ -158,7 +160,7 @@ pub fn store_started(words: &mut [u64], answer: Result<Record, Refusal>) -> u64
 
 // ---- what a call gives
 
-// A reference: 0 Skipped, 1 Again with the distance, 2 First.
+// A reference: 0 Skipped, 1 Again with the distance, 2 First. Numbers, since no enum crosses to C.
 #[repr(C)]
 #[derive(Clone, Copy, Default)]
 pub struct AnswerWords {
@@ -297,11 +299,11 @@ impl From<SetupBody> for AskedSettings {
 
     fn from(body: SetupBody) -> AskedSettings {
         AskedSettings {
-            limit: body.limit as u64,
-            start: body.start as u64,
-            width: body.width as u64,
-            buckets: body.buckets as u64,
-            kind: body.kind as u64,
+            limit: body.limit.into(),
+            start: body.start.into(),
+            width: body.width.into(),
+            buckets: body.buckets.into(),
+            kind: body.kind.into(),
         }
     }
 }
@@ -325,7 +327,7 @@ impl From<Got> for EventWords {
                 kind: Kind::Span as u64,
                 taken,
                 offset,
-                length: length as u64,
+                length: length.into(),
                 ..EventWords::default()
             },
             Event::Restart => EventWords {
