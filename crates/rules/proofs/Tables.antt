@@ -6,8 +6,8 @@ use mathlib.Core.Logic.{⊎_elim}
 use mathlib.Core.List.{List, [], ◌∷◌, ◌++◌}
 use native.Mathlib.Nat.{not-suc-le-zero, le_of_suc-le-suc, eq-or-lt_of_le}
 use native.Mathlib.Omega.{arith}
-use lib.ListN.{length, get_or, take, drop, set, length-append, length-drop}
-use lib.ListN.{take-append-drop}
+use lib.ListN.{length, get_or, take, drop, set, replicate, length-append, length-drop}
+use lib.ListN.{length-set, length-replicate, replicate-append-replicate, take-append-drop}
 use lib.Seq.{take_all, length-take-le, take_at, drop-append-add, drop-drop}
 use denote.Ref.{Bor}
 use Rattle.rules.specs.Lists.{over}
@@ -59,6 +59,22 @@ pub takes : (xs : List ℕ) (i n : ℕ) → i ≤ n → i ≤ length xs → min 
 takes xs i n k l m =
     ⊎_elim (λ (e : i ≡ n). ap (λ (j : ℕ). take j xs) e) (λ (e : i < n). take_all i xs (omega arith) ∙ sym (take_all n xs (omega arith)))
     (eq-or-lt_of_le k)
+
+-- one more of the same, over the front of a table
+pub record Filled (v : ℕ) (xs now : List ℕ) (i : ℕ) : Type 0 where
+  pub is : now ≡ over (replicate i v) xs
+  pub same : length now ≡ length xs
+
+pub fill_none : (v : ℕ) (xs : List ℕ) → Filled v xs xs 0
+fill_none v xs = record { is = refl; same = refl }
+
+pub fill_more : (v : ℕ) (xs now : List ℕ) (i : ℕ) → i < length xs → Filled v xs now i → Filled v xs (set now i v) (i + 1)
+fill_more v xs now i h f = record {
+  is = rw f.is (ap (λ (j : ℕ). set (over (replicate i v) xs) j v) (sym (length-replicate i v))
+      ∙ over_set (replicate i v) xs v (rw length-replicate h)
+      ∙ ap (λ (l : List ℕ). over l xs) (replicate-append-replicate i 1 v));
+  same = length-set now i v ∙ f.same;
+}
 
 -- the same tables are the same one by one
 pub each_same : {t u : Tables} → t ≡ u
