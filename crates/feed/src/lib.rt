@@ -48,6 +48,7 @@ pub fn feed(
         ≡ feed_of bytes.now (tracker kept.old locations.old counts.old thresholds.old) }
 {
     let mut at = 0;
+    // A copy, in registers: written through the lent record, a Skipped reference takes twice the instructions.
     let mut latest = *kept;
     while at < bytes.len() {
         match reading::read(&bytes[at..]) {

@@ -4,7 +4,6 @@ use mathlib.Core.Path.{ap, ◌∙◌}
 use Rattle.std.specs.Prelude.{Ok}
 use mathlib.Core.List.{[]}
 use Prim.Native.Nat.{◌+◌, ◌-◌, ◌<◌, ◌^◌}
-use Rattle.std.proofs.lemmas.Result.{err_from_is_err_and}
 use Rattle.curve.specs.declared.Pause.{Pause}
 use Rattle.curve.specs.Program.{Ready}
 use Rattle.curve.proofs.Input.{follows_none, counted, read_leads}
@@ -31,12 +30,6 @@ loop-p-preserved c =
 pub returns-in-Break : goal.returns-in-Break
 returns-in-Break c =
     read_leads (ready _ c.loop-p.invariant.0 c.loop-p-test.true) c.loop-p.invariant.2 c.one_read.ensures (c.in_ok-next.was ∙ ap Ok c.in-Break.is)
-
-pub returns-in_err-next : goal.returns-in_err-next
-returns-in_err-next c =
-    let failed = err_from_is_err_and c.from_residual.result c.from_residual.ensures.1 in
-    rw (failed.1, failed.2)
-    (read_leads (ready _ c.loop-p.invariant.0 c.loop-p-test.true) c.loop-p.invariant.2 c.one_read.ensures c.in_err-next.was)
 
 pub returns : goal.returns
 returns c =
