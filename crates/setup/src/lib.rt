@@ -35,6 +35,19 @@ pub fn with_defaults(given: Settings) -> Settings
     }
 }
 
+// Resets the first n buckets: counts to 0, bucket thresholds to `start`. Not by `fill`, which would be compiled to memset: a C program would
+// have to supply it.
+fn clear(counts: &mut [u64], thresholds: &mut [u32], n: usize, start: u32)
+    requires { (n ≤ length counts.old) × (n ≤ length thresholds.old) }
+    ensures counts_after { counts.new ≡ over (replicate n 0) counts.old }
+    ensures thresholds_after { thresholds.new ≡ over (replicate n start) thresholds.old }
+{
+    for i in 0..n {
+        counts[i] = 0;
+        thresholds[i] = start;
+    }
+}
+
 // A fresh start, once nothing refuses it.
 fn begin(s: Settings, counts: &mut [u64], thresholds: &mut [u32]) -> Record
     requires { (out_of_range s ≡ false) × (buckets_too_short s (buckets_of counts.old thresholds.old) ≡ false) }
@@ -42,9 +55,7 @@ fn begin(s: Settings, counts: &mut [u64], thresholds: &mut [u32]) -> Record
     ensures thresholds_value { buckets_of counts.new thresholds.new ≡ fresh_buckets s (buckets_of counts.old thresholds.old) }
 {
     let start = s.start;
-    let needed = (s.buckets + 2) as usize;
-    counts[..needed].fill(0);
-    thresholds[..needed].fill(start as u32);
+    clear(counts, thresholds, (s.buckets + 2) as usize, start as u32);
     Record {
         settings: s,
         threshold: start,
