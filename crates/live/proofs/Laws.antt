@@ -1,44 +1,42 @@
--- The laws of a list of locations at the front of a table. Each loop has a record that it keeps (`Shifting`, `Keeping`), with a law for how it
--- begins, for each turn and for its end; a lowering is put together from the laws of the others. Assumes nothing.
-use Prim.Native.Nat.{ℕ, suc, ◌+◌, ◌-◌, ◌≤◌, ◌<◌, min, max}
+-- The laws of a list of locations. The loop of `keep_below` has a record that it keeps (`Keeping`), with a law for how it begins, for each turn
+-- and for its end; a lowering is put together from the laws of the others. Assumes nothing.
+use Prim.Native.Nat.{ℕ, zero, suc, ◌+◌, ◌-◌, ◌≤◌, ◌<◌, min, max}
 use mathlib.Core.Path.{◌≡◌, refl, ap, ◌∙◌}
 use mathlib.Core.Bool.{Bool, true, false, cond}
-use mathlib.Core.List.{List, [], ◌∷◌, ◌++◌, append-nil}
+use mathlib.Core.List.{List, [], ◌∷◌, ◌++◌, append-nil, append_assoc}
 use Rattle.std.specs.Prelude.{Some, None}
-use native.Mathlib.Nat.{not-suc-le-zero}
+use native.Mathlib.Nat.{not-suc-le-zero, le_of_suc-le-suc}
 use native.Mathlib.Numerals.{add-one}
 use native.Mathlib.Omega.{arith}
 use lib.Dec.{eqb, ltb}
-use lib.ListN.{length, get_or, take, drop, set, length-set, length-append, length-take, drop_of_length-le}
-use lib.Seq.{drop-cons, get_or-take, take-suc}
+use lib.ListN.{length, get_or, take, drop, set, length-set, length-append, length-take, drop_of_length-le, take-append-drop}
+use lib.Seq.{drop-cons, take-suc, take_all}
 use borrow.Author.Tests.{eq-eqb, ne_eqb, lt-ltb, le-ltb, ltb-true}
 use Rattle.std.specs.List.{copy_within}
 use Rattle.rules.specs.Lists.{keep, over}
 use Rattle.rules.specs.Reference.{first_from, first_place, to_front, under, largest, keep_below, lowered}
 use Rattle.rules.proofs.Tests.{cases}
 use Rattle.rules.proofs.Lists.{keep_append, keep_length}
-use Rattle.rules.proofs.Tables.{over_at, over_set, over_length, over_front, over_over, takes}
+use Rattle.rules.proofs.Tables.{over_at, over_set, over_length, over_front, over_over}
 use Rattle.rules.proofs.Places.{found_lt, front_length, front_over, front_new}
-use Rattle.live.specs.Live.{moved_to_front, remaining, remaining_of, lowering, lowering_of}
+use Rattle.live.specs.Live.{moved_to_front, remaining, remaining_of, lowering, staying, lowering_of}
 
--- ---- the search, at the place i of the first n
+-- ---- the search, at the place i
 
-module _ (x n : ℕ) (xs : List ℕ) (i : ℕ) where
-  opened : i < min n (length xs)
-      → first_from i x (drop i (take n xs)) ≡ cond (eqb (get_or xs i 0) x) (Some i) (first_from (suc i) x (drop (suc i) (take n xs)))
+module _ (x : ℕ) (xs : List ℕ) (i : ℕ) where
+  opened : i < length xs → first_from i x (drop i xs) ≡ cond (eqb (get_or xs i 0) x) (Some i) (first_from (suc i) x (drop (suc i) xs))
   unfolding first_from
-  opened h = rw (drop-cons (take n xs) i 0 (rw length-take h), get_or-take n xs i 0 (omega arith))
+  opened h = rw (drop-cons xs i 0 h)
 
-  pub search_hit : i < min n (length xs) → get_or xs i 0 ≡ x → first_from i x (drop i (take n xs)) ≡ Some i
+  pub search_hit : i < length xs → get_or xs i 0 ≡ x → first_from i x (drop i xs) ≡ Some i
   search_hit h e = rw (opened h, eq-eqb _ _ e)
 
-  pub search_miss : i < min n (length xs) → (get_or xs i 0 ≡ x → ⊥)
-      → first_from i x (drop i (take n xs)) ≡ first_from (i + 1) x (drop (i + 1) (take n xs))
+  pub search_miss : i < length xs → (get_or xs i 0 ≡ x → ⊥) → first_from i x (drop i xs) ≡ first_from (i + 1) x (drop (i + 1) xs)
   search_miss h e = rw (opened h, ne_eqb _ _ e, add-one)
 
-  pub search_end : min n (length xs) ≤ i → first_from i x (drop i (take n xs)) ≡ None
+  pub search_end : length xs ≤ i → first_from i x (drop i xs) ≡ None
   unfolding first_from
-  search_end h = let l : length (take n xs) ≤ i = rw length-take h in rw (drop_of_length-le (take n xs) l)
+  search_end h = rw (drop_of_length-le xs h)
 
 -- ---- the move to the front
 
@@ -101,9 +99,10 @@ module _ (p : ℕ → Bool) (xs now : List ℕ) (number i : ℕ) (k : Keeping p 
       let e : keep p (take (i + 1) xs) ≡ keep p (take i xs) = more ∙ rw b' (append-nil (keep p (take i xs))) in
       record { reach = omega arith; less = omega arith; count = rw e k.count; is = rw e k.is; same = k.same }
 
-pub keep_end : (p : ℕ → Bool) (xs now : List ℕ) (number i n : ℕ) → Keeping p xs now number i → i ≡ min n (length xs)
-    → remaining number now ≡ remaining (length (keep p (take n xs))) (over (keep p (take n xs)) xs)
-keep_end p xs now number i n k m = rw (← takes xs i n (omega arith) k.reach (omega arith), k.count, k.is)
+pub keep_end : (p : ℕ → Bool) (xs now : List ℕ) (number i : ℕ) → Keeping p xs now number i → i ≡ length xs
+    → remaining number now ≡ remaining (length (keep p xs)) (over (keep p xs) xs)
+keep_end p xs now number i k m =
+    rw (k.count, k.is) (ap (λ (l : List ℕ). remaining (length (keep p l)) (over (keep p l) xs)) (take_all i xs (omega arith)))
 
 -- ---- a lowering
 
@@ -139,41 +138,41 @@ moved_kept x new xs h =
     ∙ over_over (x ∷ new) new xs (omega arith) h
 
 -- the new location's hash is its own, and the threshold has fallen
-pub record Fallen (hash : ℕ → ℕ) (t n x : ℕ) (xs : List ℕ) (own fallen : ℕ) : Type 0 where
+pub record Fallen (hash : ℕ → ℕ) (t x : ℕ) (xs : List ℕ) (own fallen : ℕ) : Type 0 where
   pub own_is : own ≡ hash x
-  pub fallen_is : fallen ≡ lowered hash t (x ∷ take n xs)
+  pub fallen_is : fallen ≡ lowered hash t (x ∷ xs)
 
-pub falls : (hash : ℕ → ℕ) (t n x : ℕ) (xs : List ℕ) {own others most fallen : ℕ} → own ≡ hash x → others ≡ largest hash (take n xs)
-    → most ≡ max own others → fallen ≡ min t most → Fallen hash t n x xs own fallen
+pub falls : (hash : ℕ → ℕ) (t x : ℕ) (xs : List ℕ) {own others most fallen : ℕ} → own ≡ hash x → others ≡ largest hash xs
+    → most ≡ max own others → fallen ≡ min t most → Fallen hash t x xs own fallen
 unfolding largest
-falls hash t n x xs p q r s = record { own_is = p; fallen_is = rw (← p, ← q, ← r) s }
+falls hash t x xs p q r s = record { own_is = p; fallen_is = rw (← p, ← q, ← r) s }
 
--- and of the first n, those below it stay
-module _ (hash : ℕ → ℕ) (t n x : ℕ) (xs mid : List ℕ) (own fallen number : ℕ) (f : Fallen hash t n x xs own fallen)
-    (k : remaining number mid ≡ remaining_of hash fallen n xs) where
+-- and of the list, those below it stay
+module _ (hash : ℕ → ℕ) (t x : ℕ) (xs mid : List ℕ) (own fallen number : ℕ) (f : Fallen hash t x xs own fallen)
+    (k : remaining number mid ≡ remaining_of hash fallen xs) where
   pub room : own < fallen → number < length xs
   room h =
-      let l : hash x < lowered hash t (x ∷ take n xs) = rw (← f.own_is, ← f.fallen_is) h in
-      let m : length (keep_below hash fallen (take n xs)) < length (take n xs) = rw f.fallen_is (leaves hash t x (take n xs) l) in
-      omega (arith, ap (λ r. r.number) k, length-take n xs)
+      let l : hash x < lowered hash t (x ∷ xs) = rw (← f.own_is, ← f.fallen_is) h in
+      let m : length (keep_below hash fallen xs) < length xs = rw f.fallen_is (leaves hash t x xs l) in
+      omega (arith, ap (λ r. r.number) k)
 
   -- the new location stays, in front of the others that stay, or leaves
-  pub stays : own < fallen → lowering (record { threshold = fallen; live = number + 1 }) (moved_to_front number x mid) ≡ lowering_of hash t n x xs
+  pub stays : own < fallen → lowering (record { threshold = fallen; live = number + 1 }) (moved_to_front number x mid) ≡ lowering_of hash t x xs
   stays h =
-      let q : number ≡ length (keep_below hash fallen (take n xs)) = ap (λ r. r.number) k in
-      let l : hash x < lowered hash t (x ∷ take n xs) = rw (← f.own_is, ← f.fallen_is) h in
+      let q : number ≡ length (keep_below hash fallen xs) = ap (λ r. r.number) k in
+      let l : hash x < lowered hash t (x ∷ xs) = rw (← f.own_is, ← f.fallen_is) h in
       rw (
         ap (λ r. r.table) k,
         q,
         f.fallen_is,
         lt-ltb _ _ l,
-        moved_kept x (keep_below hash (lowered hash t (x ∷ take n xs)) (take n xs)) xs (rw (← f.fallen_is, ← q) (room h)),
+        moved_kept x (keep_below hash (lowered hash t (x ∷ xs)) xs) xs (rw (← f.fallen_is, ← q) (room h)),
         add-one,
       )
 
-  pub goes : fallen ≤ own → lowering (record { threshold = fallen; live = number }) mid ≡ lowering_of hash t n x xs
+  pub goes : fallen ≤ own → lowering (record { threshold = fallen; live = number }) mid ≡ lowering_of hash t x xs
   goes h =
-      let l : lowered hash t (x ∷ take n xs) ≤ hash x = rw (← f.own_is, ← f.fallen_is) h in
+      let l : lowered hash t (x ∷ xs) ≤ hash x = rw (← f.own_is, ← f.fallen_is) h in
       rw (ap (λ r. r.number) k, ap (λ r. r.table) k, f.fallen_is, le-ltb _ _ l)
 
 -- ---- what a caller needs besides
@@ -193,12 +192,35 @@ pub moved_length : (d x : ℕ) (xs : List ℕ) → length (moved_to_front d x xs
 unfolding moved_to_front
 moved_length d x xs = cases (ltb d (length xs)) (λ e. rw e (front_length d x xs (ltb-true _ _ e))) (λ e. rw e)
 
-pub kept_length : (hash : ℕ → ℕ) (t n : ℕ) (xs : List ℕ) → length (remaining_of hash t n xs).table ≡ length xs
-kept_length hash t n xs = over_length (keep_below hash t (take n xs)) xs (omega (arith, keep_length (under hash t) (take n xs), length-take n xs))
+pub kept_length : (hash : ℕ → ℕ) (t : ℕ) (xs : List ℕ) → length (remaining_of hash t xs).table ≡ length xs
+kept_length hash t xs = over_length (keep_below hash t xs) xs (keep_length (under hash t) xs)
 
-pub lowering_live : (hash : ℕ → ℕ) (t n x : ℕ) (xs : List ℕ) → (lowering_of hash t n x xs).result.live ≤ min n (length xs)
-lowering_live hash t n x xs = omega (arith, lowered_length hash t x (take n xs), length-take n xs)
+pub lowering_live : (hash : ℕ → ℕ) (t x : ℕ) (xs : List ℕ) → (lowering_of hash t x xs).result.live ≤ length xs
+lowering_live hash t x xs = lowered_length hash t x xs
 
-pub lowering_length : (hash : ℕ → ℕ) (t n x : ℕ) (xs : List ℕ) → length (lowering_of hash t n x xs).table ≡ length xs
-lowering_length hash t n x xs =
-    over_length (keep_below hash (lowered hash t (x ∷ take n xs)) (x ∷ take n xs)) xs (omega (arith, lowering_live hash t n x xs))
+pub lowering_length : (hash : ℕ → ℕ) (t x : ℕ) (xs : List ℕ) → length (lowering_of hash t x xs).table ≡ length xs
+lowering_length hash t x xs = over_length (keep_below hash (lowered hash t (x ∷ xs)) (x ∷ xs)) xs (lowering_live hash t x xs)
+
+-- ---- where a list is the first n of a table, or all of it if the table is shorter, what is done to the list is done over the front of the table
+
+over_part : (new xs : List ℕ) (n : ℕ) → length new ≤ n → over new (take n xs) ++ drop n xs ≡ over new xs
+over_part new xs n h = append_assoc new (drop (length new) (take n xs)) (drop n xs) ∙ ap (λ (l : List ℕ). new ++ l) (rest new xs n h)
+  where
+    rest : (new xs : List ℕ) (n : ℕ) → length new ≤ n → drop (length new) (take n xs) ++ drop n xs ≡ drop (length new) xs
+    rest [] xs n h = take-append-drop n xs
+    rest (y ∷ new) xs zero h = absurd (not-suc-le-zero h)
+    rest (y ∷ new) [] (suc n) h = refl
+    rest (y ∷ new) (x ∷ xs) (suc n) h = rest new xs n (le_of_suc-le-suc h)
+
+pub kept_part : (hash : ℕ → ℕ) (t n : ℕ) (xs : List ℕ)
+    → remaining (remaining_of hash t (take n xs)).number ((remaining_of hash t (take n xs)).table ++ drop n xs)
+    ≡ remaining (length (keep_below hash t (take n xs))) (over (keep_below hash t (take n xs)) xs)
+kept_part hash t n xs = ap (remaining _)
+    (over_part (keep_below hash t (take n xs)) xs n (omega (arith, keep_length (under hash t) (take n xs), length-take n xs)))
+
+pub lowered_part : (hash : ℕ → ℕ) (t n x : ℕ) (xs : List ℕ)
+    → lowering (lowering_of hash t x (take n xs)).result ((lowering_of hash t x (take n xs)).table ++ drop n xs)
+    ≡ staying hash (lowered hash t (x ∷ take n xs)) (x ∷ take n xs) xs
+lowered_part hash t n x xs = ap (lowering _)
+    (over_part (keep_below hash (lowered hash t (x ∷ take n xs)) (x ∷ take n xs)) xs n
+    (omega (arith, lowering_live hash t x (take n xs), length-take n xs)))

@@ -3,28 +3,27 @@ use Prim.Native.Nat.{ℕ}
 use mathlib.Core.Path.{◌≡◌, sym, ap, ◌∙◌}
 use mathlib.Core.List.{List}
 use Rattle.std.specs.Prelude.{Option}
-use lib.ListN.{take}
 use Rattle.rules.specs.declared.Hashing.{Hashing}
 use Rattle.rules.specs.Settings.{hash_of}
 use Rattle.rules.specs.Reference.{first_place, largest}
 use Rattle.live.specs.declared.Lowered.{Lowered}
 use Rattle.live.specs.Live.{moved_to_front, remaining, remaining_of, lowering, lowering_of}
 
-module _ (xs : List ℕ) (n : ℕ) where
-  pub first_place_unique : (x : ℕ) (r s : Option ℕ) → r ≡ first_place x (take n xs) → s ≡ first_place x (take n xs) → r ≡ s
+module _ (xs : List ℕ) where
+  pub first_place_unique : (x : ℕ) (r s : Option ℕ) → r ≡ first_place x xs → s ≡ first_place x xs → r ≡ s
   first_place_unique x r s e f = e ∙ sym f
 
-  pub to_front_unique : (x : ℕ) (ys zs : List ℕ) → ys ≡ moved_to_front n x xs → zs ≡ moved_to_front n x xs → ys ≡ zs
-  to_front_unique x ys zs e f = e ∙ sym f
+  pub to_front_unique : (d x : ℕ) (ys zs : List ℕ) → ys ≡ moved_to_front d x xs → zs ≡ moved_to_front d x xs → ys ≡ zs
+  to_front_unique d x ys zs e f = e ∙ sym f
 
   module _ (h : Hashing) where
-    pub largest_hash_unique : (r s : ℕ) → r ≡ largest (hash_of h) (take n xs) → s ≡ largest (hash_of h) (take n xs) → r ≡ s
+    pub largest_hash_unique : (r s : ℕ) → r ≡ largest (hash_of h) xs → s ≡ largest (hash_of h) xs → r ≡ s
     largest_hash_unique r s e f = e ∙ sym f
 
-    pub keep_below_unique : (t r s : ℕ) (ys zs : List ℕ) → remaining r ys ≡ remaining_of (hash_of h) t n xs
-        → remaining s zs ≡ remaining_of (hash_of h) t n xs → (r ≡ s) × (ys ≡ zs)
+    pub keep_below_unique : (t r s : ℕ) (ys zs : List ℕ) → remaining r ys ≡ remaining_of (hash_of h) t xs
+        → remaining s zs ≡ remaining_of (hash_of h) t xs → (r ≡ s) × (ys ≡ zs)
     keep_below_unique t r s ys zs e f = let g = e ∙ sym f in (ap (λ k. k.number) g, ap (λ k. k.table) g)
 
-    pub lower_unique : (t x : ℕ) (r s : Lowered) (ys zs : List ℕ) → lowering r ys ≡ lowering_of (hash_of h) t n x xs
-        → lowering s zs ≡ lowering_of (hash_of h) t n x xs → (r ≡ s) × (ys ≡ zs)
+    pub lower_unique : (t x : ℕ) (r s : Lowered) (ys zs : List ℕ) → lowering r ys ≡ lowering_of (hash_of h) t x xs
+        → lowering s zs ≡ lowering_of (hash_of h) t x xs → (r ≡ s) × (ys ≡ zs)
     lower_unique t x r s ys zs e f = let g = e ∙ sym f in (ap (λ k. k.result) g, ap (λ k. k.table) g)

@@ -1,7 +1,7 @@
-// A list of locations at the front of a lent table: its first n entries, or all of them if the table is shorter.
+// A list of locations, which the caller takes from the front of a table.
 #![tactic(auto)]
 
-ghost use Rattle.std.specs.Prelude.{◌≡◌, take};
+ghost use Rattle.std.specs.Prelude.{◌≡◌};
 ghost use Rattle.rules.specs.Settings.{hash_of};
 ghost use Rattle.rules.specs.Reference.{first_place, largest};
 ghost use Rattle.live.specs.Live.{moved_to_front, remaining, remaining_of, lowering, lowering_of};
@@ -17,17 +17,16 @@ pub struct Lowered {
 
 // Finds the place, counted from 0, where the location first occurs: `None` if it is not in the list.
 #[tactic(auto, using(crate::proofs::Laws::search_hit, crate::proofs::Laws::search_miss, crate::proofs::Laws::search_end))]
-pub fn first_place(locations: &[u64], n: usize, location: u64) -> Option<usize>
-    ensures { result ≡ first_place location (take n locations.now) }
+pub fn first_place(list: &[u64], location: u64) -> Option<usize>
+    ensures { result ≡ first_place location list.now }
 {
-    let end = n.min(locations.len());
     let mut place: usize = 0;
     // The documents name this form: a loop that yields the place, or absence, by `break`.
     loop {
-        if end <= place {
+        if list.len() <= place {
             break None;
         }
-        if locations[place] == location {
+        if list[place] == location {
             break Some(place);
         }
         place += 1;
@@ -47,27 +46,27 @@ pub fn to_front(locations: &mut [u64], place: usize, location: u64)
 }
 
 // The largest hash in the list, or 0 if the list is empty.
-#[tactic(auto, using(crate::proofs::Laws::largest_more, rules::proofs::Tables::takes), unfolding(rules::specs::Reference::largest))]
-pub fn largest_hash(locations: &[u64], n: usize, hashing: Hashing) -> u64
-    ensures { result ≡ largest (hash_of hashing) (take n locations.now) }
+#[tactic(auto, using(crate::proofs::Laws::largest_more), unfolding(rules::specs::Reference::largest))]
+pub fn largest_hash(list: &[u64], hashing: Hashing) -> u64
+    ensures { result ≡ largest (hash_of hashing) list.now }
 {
     let mut most: u64 = 0;
-    for location in &locations[..n.min(locations.len())] {
+    for location in list {
         most = most.max(hash::hash_of(hashing, *location));
     }
     most
 }
 
 // Keeps the entries whose hash is below the threshold, in order, and drops the others. Returns how many are kept.
-pub fn keep_below(locations: &mut [u64], n: usize, hashing: Hashing, threshold: u64) -> usize
-    ensures { remaining result locations.new ≡ remaining_of (hash_of hashing) threshold n locations.old }
+pub fn keep_below(list: &mut [u64], hashing: Hashing, threshold: u64) -> usize
+    ensures { remaining result list.new ≡ remaining_of (hash_of hashing) threshold list.old }
 {
-    let end = n.min(locations.len());
     let mut number: usize = 0;
-    for i in 0..end {
-        let location = locations[i];
+    // By index, since it writes to the slice that it reads, behind the place where it reads.
+    for i in 0..list.len() {
+        let location = list[i];
         if hash::hash_of(hashing, location) < threshold {
-            locations[number] = location;
+            list[number] = location;
             number += 1;
         }
     }
@@ -76,22 +75,15 @@ pub fn keep_below(locations: &mut [u64], n: usize, hashing: Hashing, threshold: 
 
 // Puts a new location in front of a list without room for it: the threshold falls, and every entry whose hash is not below it is
 // dropped, perhaps the new one too.
-pub fn lower(
-    locations: &mut [u64],
-    n: usize,
-    hashing: Hashing,
-    threshold: u64,
-    location: u64,
-) -> Lowered
-    ensures { lowering result locations.new
-        ≡ lowering_of (hash_of hashing) threshold n location locations.old }
+pub fn lower(list: &mut [u64], hashing: Hashing, threshold: u64, location: u64) -> Lowered
+    ensures { lowering result list.new ≡ lowering_of (hash_of hashing) threshold location list.old }
 {
     let own = hash::hash_of(hashing, location);
-    let others = largest_hash(locations, n, hashing);
+    let others = largest_hash(list, hashing);
     let fallen = threshold.min(own.max(others));
-    let number = keep_below(locations, n, hashing, fallen);
+    let number = keep_below(list, hashing, fallen);
     if own < fallen {
-        to_front(locations, number, location);
+        to_front(list, number, location);
         return Lowered {
             threshold: fallen,
             live: number + 1,

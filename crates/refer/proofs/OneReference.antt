@@ -12,7 +12,7 @@ use borrow.Author.Tests.{lt-ltb, le-ltb, eqb-false, ltb-true, ltb-false}
 use Rattle.rules.specs.declared.Record.{Record}
 use Rattle.rules.specs.Lists.{over}
 use Rattle.rules.specs.Settings.{Histogram, needed, most_references}
-use Rattle.rules.specs.Reference.{first_place, to_front, under, record_in, bucket_for, within_limit, sampled_step}
+use Rattle.rules.specs.Reference.{first_place, to_front, under, lowered, record_in, bucket_for, within_limit, sampled_step}
 use Rattle.rules.specs.declared.Reply.{Reply}
 use Rattle.rules.specs.declared.Reply.TheVariants.{Skipped, First, Again}
 use Rattle.rules.specs.Answers.{refused, gives}
@@ -33,7 +33,7 @@ use Rattle.rules.proofs.Calls.{Accepted, refer_bucket, refer_accept}
 use Rattle.buckets.specs.Buckets.{recorded_of}
 use Rattle.buckets.proofs.Laws.{recorded_needed}
 use Rattle.live.specs.declared.Lowered.{Lowered}
-use Rattle.live.specs.Live.{Lowering, moved_to_front, lowering, lowering_of}
+use Rattle.live.specs.Live.{Lowering, moved_to_front, lowering, staying}
 use Rattle.live.proofs.Laws.{found_below, moved_over, moved_new}
 use Rattle.refer.specs.Refer.{counted_in, entered_of, Samples, skip_of}
 
@@ -60,8 +60,11 @@ module _ (x : ℕ) (kept : Record) (ls cs ts : List ℕ) (w : Samples x (tracker
   pub threshold_some : 0 < kept.threshold
   threshold_some = omega (arith, ltb-true (hash_for kept.settings x) kept.threshold w.below)
 
-  counted_live : length (take kept.live ls) ≡ kept.live
-  counted_live = length-take-le kept.live ls (omega (arith, bounds.live_high, long.locations_long))
+  pub list_fits : kept.live ≤ length ls
+  list_fits = omega (arith, bounds.live_high, long.locations_long)
+
+  pub counted_live : length (take kept.live ls) ≡ kept.live
+  counted_live = length-take-le kept.live ls list_fits
 
   -- by the place in the live list, and the bucket that goes with it
   module _ (place : Option ℕ) (found : first_place x (live_of s) ≡ place)
@@ -126,7 +129,7 @@ module _ (x : ℕ) (kept : Record) (ls cs ts : List ℕ) (w : Samples x (tracker
       let b = found_below x kept.live ls d found in
       let l : kept.live ≡ length (to_front d x (live_of s)) = sym (front_length d x (live_of s) (omega (arith, counted_live, b.0)) ∙ counted_live) in
       let o : ls' ≡ over (to_front d x (live_of s)) ls =
-      m ∙ moved_over x d kept.live ls b.0 (omega (arith, bounds.live_high, long.locations_long)) in
+      m ∙ moved_over x d kept.live ls b.0 list_fits in
       let h = r.0 ∙ ap (λ z. record_in kept.threshold z (buckets_of cs ts)) is in
       (λ i. record {
         result = gives (Again d);
@@ -166,7 +169,8 @@ module _ (x : ℕ) (kept : Record) (ls cs ts : List ℕ) (w : Samples x (tracker
         (λ t.
         let no_room = ltb-false kept.live kept.settings.limit t in
         let n : ltb kept.settings.limit longer ≡ true = lt-ltb kept.settings.limit longer (omega (arith, l, no_room)) in
-        let p : lowering low ls' ≡ lowering_of (hash_for kept.settings) kept.threshold kept.live x ls = m ∙ rw t in
+        let fallen = lowered (hash_for kept.settings) kept.threshold (x ∷ live_of s) in
+        let p : lowering low ls' ≡ staying (hash_for kept.settings) fallen (x ∷ live_of s) ls = m ∙ rw t in
         (λ i. entered (p i) (r.0 i)) ∙ sym (r.1 ∙ rw n))
 
 -- a reference whose hash is not below the threshold

@@ -1,10 +1,10 @@
 -- What the functions for one reference pass to each other. Assumes nothing.
-use Rattle.std.specs.Prelude.{Option, Some, None, ℕ, ◌+◌, ◌≡◌, true, false, cond, List, ltb}
+use Rattle.std.specs.Prelude.{Option, Some, None, ℕ, ◌+◌, ◌≡◌, true, false, cond, List, ◌∷◌, ltb, take}
 use Rattle.rules.specs.declared.Record.{Record}
-use Rattle.rules.specs.Reference.{under}
+use Rattle.rules.specs.Reference.{under, lowered}
 use Rattle.rules.specs.Layout.{Tracker, hash_for}
 use Rattle.rules.specs.Conditions.{too_short, torn_record, full}
-use Rattle.live.specs.Live.{Lowering, moved_to_front, lowering, lowering_of}
+use Rattle.live.specs.Live.{Lowering, moved_to_front, lowering, staying}
 
 -- the record with this threshold and live number, one more reference, and `sampled` more sampled ones
 abbrev pub counted_in : Record → (threshold live sampled : ℕ) → Record
@@ -20,7 +20,8 @@ abbrev pub entered_of : Record → (x : ℕ) → List ℕ → Lowering
 entered_of kept x xs =
     cond (ltb kept.live kept.settings.limit)
     (lowering (record { threshold = kept.threshold; live = kept.live + 1 }) (moved_to_front kept.live x xs))
-    (lowering_of (hash_for kept.settings) kept.threshold kept.live x xs)
+    (let list = x ∷ take kept.live xs in
+    staying (hash_for kept.settings) (lowered (hash_for kept.settings) kept.threshold list) list xs)
 
 -- only its bucket can still refuse a reference to x, and the hash of x is below the threshold
 pub record Samples (x : ℕ) (s : Tracker) : Type 0 where

@@ -2,7 +2,7 @@
 // and contents.
 #![tactic(auto)]
 
-ghost use Rattle.std.specs.Prelude.{◌≡◌, ◌<◌, ◌≤◌, Some, None};
+ghost use Rattle.std.specs.Prelude.{◌≡◌, ◌<◌, ◌≤◌, Some, None, length};
 ghost use Rattle.rules.specs.Settings.{most_references, most_limit};
 ghost use Rattle.rules.specs.Reference.{first_place, scaled_distance};
 ghost use Rattle.rules.specs.Answers.{result_of};
@@ -68,6 +68,7 @@ fn again_at(
 // Puts a location at the front of the live list, and lowers the threshold if there is no room for it. Returns the threshold and the
 // live number after that.
 fn enter(kept: Record, location: u64, locations: &mut [u64]) -> Lowered
+    requires { kept.live ≤ length locations.old }
     ensures { lowering result locations.new ≡ entered_of kept location locations.old }
 {
     let live = kept.live as usize;
@@ -79,8 +80,7 @@ fn enter(kept: Record, location: u64, locations: &mut [u64]) -> Lowered
         };
     }
     live::lower(
-        locations,
-        live,
+        &mut locations[..live],
         kept.settings.hashing,
         kept.threshold,
         location,
@@ -110,6 +110,7 @@ fn first_time(
 }
 
 // A sampled reference, to a location in the live list or to a new one.
+#[tactic(auto, using(crate::proofs::OneReference::list_fits, crate::proofs::OneReference::counted_live))]
 fn sampled(
     kept: &mut Record,
     location: u64,
@@ -121,7 +122,7 @@ fn sampled(
     ensures { outcome (result_of result) (tracker kept.new locations.new counts.new thresholds.new)
         ≡ refer_of location (tracker kept.old locations.old counts.old thresholds.old) }
 {
-    match live::first_place(locations, kept.live as usize, location) {
+    match live::first_place(&locations[..kept.live as usize], location) {
         Some(place) => again_at(kept, location, place, locations, counts, thresholds),
         None => first_time(kept, location, locations, counts, thresholds),
     }

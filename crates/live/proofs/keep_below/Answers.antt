@@ -6,8 +6,8 @@ use Rattle.live.proofs.keep_below.Goals.{then-hash_of-threshold, else-hash_of-th
 
 pub loop-i-preserved : goal.loop-i-preserved
 loop-i-preserved c = elim c.if-hash_of-threshold.branch [
-  | then-hash_of-threshold w ↦ rw (w.locations-is, w.number-is)
+  | then-hash_of-threshold w ↦ rw (w.list-is, w.number-is)
       (keep_in _ _ _ _ _ c.loop-i.invariant (omega arith) (lt-ltb _ _ (rw c.hash_of.ensures at w.if-hash_of-threshold.true)))
-  | else-hash_of-threshold w ↦ rw (w.locations-is, w.number-is)
+  | else-hash_of-threshold w ↦ rw (w.list-is, w.number-is)
       (keep_out _ _ _ _ _ c.loop-i.invariant (omega arith) (le-ltb _ _ (rw c.hash_of.ensures at w.if-hash_of-threshold.false)))
 ]

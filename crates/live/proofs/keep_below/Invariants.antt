@@ -5,4 +5,4 @@ use Rattle.live.proofs.Laws.{Keeping}
 use Rattle.live.proofs.keep_below.Given as goal
 
 abbrev pub invariant-loop-i : goal.invariant-loop-i
-invariant-loop-i l = Keeping (under (hash_of l.hashing) l.threshold) l.initial.locations l.locations l.number l.i
+invariant-loop-i l = Keeping (under (hash_of l.hashing) l.threshold) l.initial.list l.list l.number l.i

@@ -6,4 +6,4 @@ use Rattle.rules.specs.Reference.{largest}
 use Rattle.live.proofs.largest_hash.Given as goal
 
 abbrev pub invariant-loop-location : goal.invariant-loop-location
-invariant-loop-location l = l.most ≡ largest (hash_of l.hashing) (take l.location-index l.location-items)
+invariant-loop-location l = l.most ≡ largest (hash_of l.hashing) (take l.location-index l.list)
