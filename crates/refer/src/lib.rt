@@ -68,7 +68,6 @@ fn again_at(
 // Puts a location at the front of the live list, and lowers the threshold if there is no room for it. Returns the threshold and the
 // live number after that.
 fn enter(kept: Record, location: u64, locations: &mut [u64]) -> Lowered
-    requires { kept.live ≤ length locations.old }
     ensures { lowering result locations.new ≡ entered_of kept location locations.old }
 {
     let live = kept.live as usize;
@@ -79,8 +78,9 @@ fn enter(kept: Record, location: u64, locations: &mut [u64]) -> Lowered
             live: live + 1,
         };
     }
+    let end = live.min(locations.len());
     live::lower(
-        &mut locations[..live],
+        &mut locations[..end],
         kept.settings.hashing,
         kept.threshold,
         location,

@@ -3,7 +3,7 @@
 use native.Mathlib.Omega.{arith}
 use Rattle.std.proofs.lemmas.Result.{err_from_is_err_and}
 use mathlib.Core.Path.{refl}
-use Rattle.refer.proofs.OneReference.{bounds, list_fits, countable, nothing_recorded, first_done}
+use Rattle.refer.proofs.OneReference.{bounds, countable, nothing_recorded, first_done}
 use Rattle.refer.proofs.first_time.Goals as goal
 
 pub overflow_cast-references : goal.overflow_cast-references
@@ -16,9 +16,6 @@ pub counted_in-requires : goal.counted_in-requires
 counted_in-requires c =
     let a = c.args in
     countable a.location a.kept.now a.locations.now a.counts.now a.thresholds.now c.requires.0
-
-pub enter-entered-requires : goal.enter-entered-requires
-enter-entered-requires c = list_fits _ _ _ _ _ c.requires.0
 
 pub returns : goal.returns
 returns c =
