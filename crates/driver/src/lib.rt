@@ -101,13 +101,14 @@ pub extern "C" fn rockgingham_refer(
     if too_few(words) {
         return AnswerWords::from(Err(Refusal::Tables));
     }
-    let mut kept = record_of(words);
+    let kept = record_of(words);
     if let Some(after) = refer::skip(kept, location, locations, counts, thresholds) {
         store_if(words, true, after);
         return AnswerWords::from(Ok(Reply::Skipped));
     }
-    let answer = refer::refer(&mut kept, location, locations, counts, thresholds);
-    store_if(words, answer.is_ok(), kept);
+    let mut after = kept;
+    let answer = refer::refer(&mut after, location, locations, counts, thresholds);
+    store_if(words, answer.is_ok(), after);
     answer.into()
 }
 

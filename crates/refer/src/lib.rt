@@ -13,24 +13,16 @@ ghost use Rattle.refer.specs.Refer.{counted_in, entered_of, Samples, skip_of};
 ghost use Rattle.live.specs.Live.{lowering};
 
 use live::Lowered;
-use rules::{FULL_RATE, Numbers, Record, Refusal, Reply};
+use rules::{FULL_RATE, Record, Refusal, Reply};
 
-// The record with this threshold and live number, one more reference, and `sampled` more sampled ones.
-fn counted_in(kept: Record, threshold: u64, live: u64, sampled: u64) -> Record
-    requires { (kept.numbers.references < most_references) × (kept.numbers.sampled ≤ kept.numbers.references)
+// Counts one reference more, and `sampled` more sampled ones.
+fn count(kept: &mut Record, sampled: u64)
+    requires { (kept.old.numbers.references < most_references) × (kept.old.numbers.sampled ≤ kept.old.numbers.references)
         × (sampled ≤ 1) }
-    ensures { result ≡ counted_in kept threshold live sampled }
+    ensures { kept.new ≡ counted_in kept.old kept.old.threshold kept.old.live sampled }
 {
-    let s = kept.settings;
-    Record {
-        settings: s,
-        threshold,
-        live,
-        numbers: Numbers {
-            references: kept.numbers.references + 1,
-            sampled: kept.numbers.sampled + sampled,
-        },
-    }
+    kept.numbers.references += 1;
+    kept.numbers.sampled += sampled;
 }
 
 // The distance of a place in the live list, scaled to full rate.
@@ -61,7 +53,7 @@ fn again_at(
     let references = kept.numbers.references as u32;
     buckets::record_in(counts, thresholds, bucket, threshold, references)?;
     live::to_front(locations, place, location);
-    *kept = counted_in(*kept, threshold, kept.live, 1);
+    count(kept, 1);
     Ok(Reply::Again(place as u64))
 }
 
@@ -105,7 +97,9 @@ fn first_time(
     let references = kept.numbers.references as u32;
     buckets::record_in(counts, thresholds, bucket, threshold, references)?;
     let entered = enter(*kept, location, locations);
-    *kept = counted_in(*kept, entered.threshold, entered.live as u64, 1);
+    kept.threshold = entered.threshold;
+    kept.live = entered.live as u64;
+    count(kept, 1);
     Ok(Reply::First)
 }
 
@@ -151,7 +145,9 @@ pub fn skip(
     if hash::hash_of(kept.settings.hashing, location) < kept.threshold {
         return None;
     }
-    Some(counted_in(kept, kept.threshold, kept.live, 0))
+    let mut after = kept;
+    count(&mut after, 0);
+    Some(after)
 }
 
 // One reference.
@@ -175,7 +171,7 @@ pub fn refer(
         return Err(Refusal::Full);
     }
     if kept.threshold <= hash::hash_of(kept.settings.hashing, location) {
-        *kept = counted_in(*kept, kept.threshold, kept.live, 0);
+        count(kept, 0);
         return Ok(Reply::Skipped);
     }
     sampled(kept, location, locations, counts, thresholds)

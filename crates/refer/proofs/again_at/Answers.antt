@@ -36,8 +36,8 @@ overflow_cast-references c =
     let b = bounds a.location a.kept.now a.locations.now a.counts.now a.thresholds.now c.requires.0 in
     omega (arith, b.references_high)
 
-pub counted_in-requires : goal.counted_in-requires
-counted_in-requires c =
+pub count-requires : goal.count-requires
+count-requires c =
     let a = c.args in
     countable a.location a.kept.now a.locations.now a.counts.now a.thresholds.now c.requires.0
 
@@ -45,7 +45,7 @@ pub returns : goal.returns
 returns c =
     let a = c.args in
     let b = bounds a.location a.kept.now a.locations.now a.counts.now a.thresholds.now c.requires.0 in
-    rw c.counted_in.ensures (again_done _ _ _ _ _ c.requires.0 _ c.requires.1
+    rw c.count.ensures (again_done _ _ _ _ _ c.requires.0 _ c.requires.1
     _ (bucket_is a.kept.now a.place b c.scaled_distance-distance.ensures c.bucket_of-bucket.ensures)
     _ _ _ c.in_ok-record_in.ensures
     c.to_front.ensures)

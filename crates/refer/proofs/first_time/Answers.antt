@@ -12,14 +12,14 @@ overflow_cast-references c =
     let b = bounds a.location a.kept.now a.locations.now a.counts.now a.thresholds.now c.requires.0 in
     omega (arith, b.references_high)
 
-pub counted_in-requires : goal.counted_in-requires
-counted_in-requires c =
+pub count-requires : goal.count-requires
+count-requires c =
     let a = c.args in
     countable a.location a.kept.now a.locations.now a.counts.now a.thresholds.now c.requires.0
 
 pub returns : goal.returns
 returns c =
-    rw c.counted_in.ensures (first_done _ _ _ _ _ c.requires.0 c.requires.1
+    rw c.count.ensures (first_done _ _ _ _ _ c.requires.0 c.requires.1
     _ _ _ c.in_ok-record_in.ensures
     _ c.enter-entered.ensures)
 

@@ -22,13 +22,13 @@ returns-then-is_full c =
     let not_short = sym c.too_short.ensures ∙ c.if-too_short.false in
     sym (refer_full _ _ not_torn not_short (sym c.is_full.ensures ∙ c.if-is_full.true))
 
-pub counted_in-requires : goal.counted_in-requires
-counted_in-requires c = room_for _ _ (sym c.torn.ensures ∙ c.if-torn.false) (sym c.is_full.ensures ∙ c.if-is_full.false) (omega arith)
+pub count-requires : goal.count-requires
+count-requires c = room_for _ _ (sym c.torn.ensures ∙ c.if-torn.false) (sym c.is_full.ensures ∙ c.if-is_full.false) (omega arith)
 
 pub returns-then-kept-hash_of : goal.returns-then-kept-hash_of
 returns-then-kept-hash_of c =
     let not_torn = sym c.torn.ensures ∙ c.if-torn.false in
     let not_short = sym c.too_short.ensures ∙ c.if-too_short.false in
     let not_full = sym c.is_full.ensures ∙ c.if-is_full.false in
-    rw c.counted_in.ensures (skipped_done _ _ _ _ _ not_torn not_short not_full
+    rw c.count.ensures (skipped_done _ _ _ _ _ not_torn not_short not_full
     (le-ltb _ _ (rw c.hash_of.ensures at c.if-kept-hash_of.true)))

@@ -4,5 +4,5 @@ use mathlib.Core.Path.{sym, ◌∙◌}
 use Rattle.refer.proofs.OneReference.{room_for}
 use Rattle.refer.proofs.skip.Goals as goal
 
-pub counted_in-requires : goal.counted_in-requires
-counted_in-requires c = room_for _ _ (sym c.torn.ensures ∙ c.if-torn.false) (sym c.is_full.ensures ∙ c.if-is_full.false) (omega arith)
+pub count-requires : goal.count-requires
+count-requires c = room_for _ _ (sym c.torn.ensures ∙ c.if-torn.false) (sym c.is_full.ensures ∙ c.if-is_full.false) (omega arith)
