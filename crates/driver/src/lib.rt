@@ -176,7 +176,8 @@ pub extern "C" fn rockgingham_point(
     points::point(record_of(words), shape, number, counts, thresholds).into()
 }
 
-// The same point as a pair of doubles: the size, and misses divided by total.
+// The same point as a pair of doubles: the size, and misses divided by total. Line for line like the point, since an exported function cannot
+// be generic.
 #[unsafe(no_mangle)]
 pub extern "C" fn rockgingham_plot(
     words: &[u64],

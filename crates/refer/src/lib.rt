@@ -1,5 +1,6 @@
 // One reference: the tests, the hash, the live list and the bucket. `refer` accepts any record, any location, and tables of any length
-// and contents.
+// and contents. Record and tables are parameters, here and in all that C reaches: it lends them one by one, some for reading only, and two
+// tables in a struct of loans cannot be lent to one call.
 #![tactic(auto)]
 
 ghost use Rattle.std.specs.Prelude.{◌≡◌, ◌<◌, ◌≤◌, Some, None, length};

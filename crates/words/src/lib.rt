@@ -1,5 +1,6 @@
 // The record, the settings and the answers of calls in the forms in which they cross to C: words of 64 bits, lent or in structs. A struct
 // that a call gives has the refusal first, 0 if the call was accepted; if it is not 0, all other fields are 0, except those of FedWords.
+// Refusals, replies and the kinds of events are numbers here, since no enum crosses to C.
 #![tactic(auto)]
 
 ghost use Rattle.std.specs.Prelude.{◌≡◌, get_or};
@@ -164,7 +165,7 @@ pub fn store_started(words: &mut [u64], answer: Result<Record, Refusal>) -> u64
 
 // ---- what a call gives
 
-// A reference: 0 Skipped, 1 Again with the distance, 2 First. Numbers, since no enum crosses to C.
+// A reference: 0 Skipped, 1 Again with the distance, 2 First.
 #[repr(C)]
 #[derive(Clone, Copy, Default)]
 pub struct AnswerWords {
@@ -214,7 +215,7 @@ pub struct AppliedWords {
     pub taken: u64,
 }
 
-// An event that was written: how many bytes it has.
+// An event that was written: how many bytes it has. It is not AppliedWords, since the header has two structs.
 #[repr(C)]
 #[derive(Clone, Copy, Default)]
 pub struct WrittenWords {
@@ -382,7 +383,7 @@ impl From<Result<usize, Refusal>> for WrittenWords {
     }
 }
 
-// The bytes taken stand beside a refusal too.
+// The bytes taken stand beside a refusal too. (Of a struct made only to be converted, a From would be no plainer.)
 pub fn fed_words(taken: usize, ending: Result<End, Refusal>) -> FedWords
     ensures { result ≡ fed_words taken (result_of ending) }
 {
