@@ -39,7 +39,7 @@ fn refer_one(
         *kept = after;
         return Ok(());
     }
-    let _reply = refer::refer(kept, location, locations, counts, thresholds)?;
+    refer::refer(kept, location, locations, counts, thresholds)?;
     Ok(())
 }
 

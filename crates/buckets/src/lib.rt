@@ -1,5 +1,6 @@
 // The histogram in its two lent tables: each bucket's count, in units of 1/256 reference, and the threshold it was last recorded under. They
-// stay two, here and in all that is lent them: C lends them so, to some calls for reading only.
+// stay two, here and in all that is lent them: C lends them so, to some calls for reading only. Threshold and references stay two numbers:
+// the record has them, beside what is of no concern here, and a struct of the two would be made anew at each call.
 #![tactic(auto)]
 
 ghost use Rattle.std.specs.Prelude.{◌≡◌, false, ◌≤◌, min, length};

@@ -6,16 +6,17 @@
 
 ghost use Rattle.std.specs.Prelude.{◌≡◌};
 ghost use Rattle.rules.specs.Layout.{buckets_of, tables_of};
-ghost use Rattle.rules.specs.Answers.{number};
-ghost use Rattle.words.specs.Words.{settings_from, shape_from, returned};
+ghost use Rattle.rules.specs.Answers.{number, refused};
+ghost use Rattle.words.specs.Words.{settings_from, shape_from, fed_words, returned};
 ghost use Rattle.driver.specs.Calls.{version, held, setup_body_from, few_for_setup};
 ghost use Rattle.rules.specs.Events.{Fits};
 ghost use Rattle.driver.specs.Calls.{hash_in, setup_in, restart_in, refer_in, span_in, point_in, plot_in, apply_in, fed_from, feed_in, read_in, write_in};
 
+use feed::Fed;
 use rules::{Event, Hashing, Refusal, Reply, Settings, SetupBody, Shape};
 use words::{
     AnswerWords, AppliedWords, AskedSettings, Believed, EventWords, FedWords, PlotWords,
-    PointWords, WrittenWords, fed_words, record_of, store_if, store_started, too_few,
+    PointWords, WrittenWords, record_of, store_if, store_started, too_few,
 };
 
 // The version of this interface. It is part of the exported names of setup, apply and feed: the calls that can set a tracker up.
@@ -129,7 +130,7 @@ fn feed_stored(
     let fed = feed::feed(&mut kept, bytes, locations, counts, thresholds);
     let counted = kept.numbers.references != before.numbers.references;
     store_if(words, (fed.taken != 0) | counted, kept);
-    fed_words(fed.taken, fed.ending)
+    fed.into()
 }
 
 // One I/O: a reference to each block that holds one of its bytes, as in its event, which is fed.
@@ -197,6 +198,17 @@ pub extern "C" fn rockgingham_plot(
 
 // ---- trace events
 
+// A refusal before any byte was taken.
+fn refused_untaken(why: Refusal) -> FedWords
+    ensures { result ≡ fed_words 0 (refused (number why)) }
+{
+    let fed = Fed {
+        taken: 0,
+        ending: Err(why),
+    };
+    fed.into()
+}
+
 // Applies the first event of the bytes.
 #[unsafe(no_mangle)]
 pub extern "C" fn rockgingham_apply_v2(
@@ -210,11 +222,11 @@ pub extern "C" fn rockgingham_apply_v2(
         ≡ apply_in bytes.now (held words.old (tables_of locations.old counts.old thresholds.old)) }
 {
     if too_few(words) {
-        return fed_words(0, Err(Refusal::Tables)).into();
+        return refused_untaken(Refusal::Tables).into();
     }
     match reading::read(bytes) {
         Ok(got) => feed_stored(words, &bytes[..got.taken], locations, counts, thresholds).into(),
-        Err(why) => fed_words(0, Err(why)).into(),
+        Err(why) => refused_untaken(why).into(),
     }
 }
 
@@ -231,7 +243,7 @@ pub extern "C" fn rockgingham_feed_v2(
         ≡ feed_in bytes.now (held words.old (tables_of locations.old counts.old thresholds.old)) }
 {
     if too_few(words) {
-        return fed_words(0, Err(Refusal::Tables));
+        return refused_untaken(Refusal::Tables);
     }
     feed_stored(words, bytes, locations, counts, thresholds)
 }

@@ -21,7 +21,7 @@ pub fn first_place(list: &[u64], location: u64) -> Option<usize>
     ensures { result ≡ first_place location list.now }
 {
     let mut place: usize = 0;
-    // The documents name this form: a loop that yields the place, or absence, by `break`.
+    // Document 01 names this form: a loop that yields the place, or absence, by `break`.
     loop {
         if list.len() <= place {
             break None;

@@ -1,5 +1,5 @@
 // The points of the curve. Each public function accepts any record, believed shape and point number, and tables of any length and
-// contents.
+// contents. The tables stay two, here and in the text of the curve: a struct of them would be made anew at each call, and be no plainer.
 #![tactic(auto)]
 
 ghost use Rattle.std.specs.Prelude.{◌≡◌, ◌≤◌};

@@ -21,7 +21,8 @@ impl<'a> Reader<'a> {
         Reader { src, at: 0 }
     }
 
-    // Reads at the reader's place, and moves past the event. A refusal leaves the reader where it is.
+    // Reads at the reader's place, and moves past the event. A refusal leaves the reader where it is, so that this is no Iterator: it would
+    // have no end.
     pub fn next(&mut self) -> Result<Got, Refusal>
         ensures { moved result self.new ≡ next_of self.old }
     {

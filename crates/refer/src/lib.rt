@@ -34,7 +34,8 @@ fn scaled_distance(place: usize, threshold: u64) -> u64
     (place as u64) * FULL_RATE / threshold
 }
 
-// A sampled reference to a location that first occurs at `place` in the live list.
+// A sampled reference to a location that first occurs at `place` in the live list. (`Samples` is a fact about all that is lent, here and below:
+// no struct could carry it.)
 fn again_at(
     kept: &mut Record,
     location: u64,

@@ -36,7 +36,7 @@ pub fn with_defaults(given: Settings) -> Settings
 }
 
 // Resets the first n buckets: counts to 0, bucket thresholds to `start`. Not by `fill`, which would be compiled to memset: a C program would
-// have to supply it. The n counts for both tables.
+// have to supply it; and by index, since after `iter_mut` nothing is known of the entries. The n holds for both tables.
 fn clear(counts: &mut [u64], thresholds: &mut [u32], n: usize, start: u32)
     requires { (n ≤ length counts.old) × (n ≤ length thresholds.old) }
     ensures counts_after { counts.new ≡ over (replicate n 0) counts.old }

@@ -170,7 +170,7 @@ pub fn put_curve(
 const LONGEST_REFUSED: usize = 53;
 
 // Writes the line for a refused event, with the refusal's number and the place of the event's first byte, and returns its length.
-// A buffer of fewer than 53 bytes is refused.
+// A buffer of fewer than 53 bytes is refused. The refusal is a number here: the promise is made of any number, and a `Refusal` would ask more.
 pub fn put_refused_line(out: &mut [u8], number: u64, place: u64) -> Result<usize, Refusal>
     ensures { outcome (result_of result) out.new ≡ refused_in number place out.old }
 {

@@ -9,7 +9,7 @@ ghost use Rattle.words.specs.Words.{settings_from, shape_from, few_words, record
 ghost use Rattle.words.specs.Words.{answer_words, point_words, plot_words, no_settings, asked_by, got_words, event_words};
 ghost use Rattle.words.specs.Words.{written_words, fed_words, applied_from, returned};
 
-use feed::End;
+use feed::{End, Fed};
 use rules::{
     Event, Got, Hashing, Kind, Numbers, PlotPoint, Point, Record, Refusal, Reply, Settings,
     SetupBody, Shape,
@@ -134,14 +134,14 @@ fn put(words: &mut [u64], kept: Record)
     if too_few(words) {
         return;
     }
-    // By index: `copy_from_slice` takes thirty instructions more, for nine words.
+    // By index: after `iter_mut` nothing is known of the words, and `copy_from_slice` takes forty instructions more for nine of them.
     for i in 0..RECORD_WORDS {
         words[i] = new[i];
     }
 }
 
 // Stores the record that a call leaves, if it is said to have changed; otherwise nothing. The choice is here, since what is known of the
-// words would be lost where an `if` joins before the next call.
+// words would be lost where an `if` joins before the next call. An Option would be made of the two at each call, and be no plainer.
 pub fn store_if(words: &mut [u64], changed: bool, kept: Record)
     ensures { words.new ≡ stored_if changed kept words.old }
 {
@@ -383,27 +383,29 @@ impl From<Result<usize, Refusal>> for WrittenWords {
     }
 }
 
-// The bytes taken stand beside a refusal too. (Of a struct made only to be converted, a From would be no plainer.)
-pub fn fed_words(taken: usize, ending: Result<End, Refusal>) -> FedWords
-    ensures { result ≡ fed_words taken (result_of ending) }
-{
-    let taken = taken as u64;
-    match ending {
-        Ok(End::Whole) => FedWords {
-            refusal: ACCEPTED,
-            taken,
-            incomplete: 0,
-        },
-        Ok(End::Inside) => FedWords {
-            refusal: ACCEPTED,
-            taken,
-            incomplete: 1,
-        },
-        Err(why) => FedWords {
-            refusal: why.into(),
-            taken,
-            incomplete: 0,
-        },
+// The bytes taken stand beside a refusal too.
+impl From<Fed> for FedWords {
+    ghost from_gives = { λ fed words. words ≡ fed_words fed.taken (result_of fed.ending) };
+
+    fn from(fed: Fed) -> FedWords {
+        let taken = fed.taken as u64;
+        match fed.ending {
+            Ok(End::Whole) => FedWords {
+                refusal: ACCEPTED,
+                taken,
+                incomplete: 0,
+            },
+            Ok(End::Inside) => FedWords {
+                refusal: ACCEPTED,
+                taken,
+                incomplete: 1,
+            },
+            Err(why) => FedWords {
+                refusal: why.into(),
+                taken,
+                incomplete: 0,
+            },
+        }
     }
 }
 

@@ -9,4 +9,4 @@ returns c =
     let a = c.args in
     feed_stored _ (held a.words.now (tables_of a.locations.now a.counts.now a.thresholds.now))
     (rw c.record_of-before.ensures at c.feed-fed.ensures)
-    c.fed_words.ensures (rw c.record_of-before.ensures at c.store_if.ensures)
+    c.into.ensures (rw c.record_of-before.ensures at c.store_if.ensures)
