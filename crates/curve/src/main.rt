@@ -205,6 +205,7 @@ fn follow(
     Err(Stop::Unending)
 }
 
+// The settings of the program's own start, each as the rules name it. (A `Default` of Settings would say that zeros are good settings.)
 fn first_settings() -> Settings
     ensures { result ≡ first_settings }
 {

@@ -74,7 +74,8 @@ pub fn is_full(n: Numbers) -> bool
     n.references == MOST_REFERENCES
 }
 
-// Whether a span has bytes and the last of them passes 2^64 - 1. Nothing is added that could wrap.
+// Whether a span has bytes and the last of them passes 2^64 - 1. Nothing is added that could wrap. Offset and length stay two, as they are in
+// `Event::Span`, of which the theorems speak.
 pub fn overruns(offset: u64, length: u32) -> bool
     ensures { result ≡ overrun offset length }
 {
