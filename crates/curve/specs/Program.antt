@@ -21,7 +21,6 @@ use Rattle.text.specs.Text.{refused_line, curve_of}
 use Rattle.feed.specs.declared.End.{End}
 use Rattle.feed.specs.declared.End.TheVariants.{Whole, Inside}
 use Rattle.feed.specs.Feed.{feed_of}
-use Rattle.curve.specs.declared.Memory.{Memory}
 use Rattle.curve.specs.declared.Stop.{Stop}
 use Rattle.curve.specs.declared.Stop.TheVariants as stop
 use Rattle.curve.specs.declared.Pause.{Pause}
@@ -33,10 +32,6 @@ first_settings = record { limit = 0; start = 0; width = 0; buckets = 0; hashing 
 -- its tables hold 1,024 locations and 1,026 buckets, filled with zeros
 abbrev pub first_tables : Tables
 first_tables = tables_of (replicate 1024 0) (replicate 1026 0) (replicate 1026 0)
-
--- the tables that the program's memory holds
-abbrev pub tables_in : Memory → Tables
-tables_in m = tables_of m.locations m.counts m.thresholds
 
 -- the text of a curve; if the curve is refused, the line for an event refused at this place
 abbrev pub or_refused : Result (List ℕ) → (place : ℕ) → List ℕ

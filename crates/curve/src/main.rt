@@ -3,9 +3,10 @@
 
 ghost use Rattle.std.specs.Prelude.{◌≡◌, ◌+◌, ◌-◌, ◌≤◌, length, take, drop};
 ghost use Rattle.rules.specs.Answers.{number};
+ghost use Rattle.rules.specs.Layout.{tables_of, tracker, buckets_of};
 ghost use Rattle.text.specs.Text.{refused_line, curve_of};
 ghost use Rattle.curve.specs.declared.Stop.TheVariants.{Failed};
-ghost use Rattle.curve.specs.Program.{first_settings, tables_in, came_of, or_refused, last_text, Stands, Ready};
+ghost use Rattle.curve.specs.Program.{first_settings, came_of, or_refused, last_text, Stands, Ready};
 ghost use Rattle.curve.specs.Program.{AfterBytes, AfterRead, OneRead, Tells, TellsOver, Printing};
 
 use rules::{Hashing, Record, Refusal, Settings};
@@ -19,14 +20,6 @@ const MOST_COUNTED: u64 = 0xffff_ffff_fffe_ffff;
 
 // The number of bytes that the buffer holds.
 const BUFFER: usize = 65536;
-
-// The tables, in memory of fixed size.
-#[derive(Drop)]
-struct Memory {
-    locations: [u64; 1024],
-    counts: [u64; 1026],
-    thresholds: [u32; 1026],
-}
 
 // Why there is no text to print.
 #[derive(Clone, Copy)]
@@ -95,41 +88,54 @@ fn put_refusal(out: &mut [u8; BUFFER], why: Refusal, place: u64) -> usize
 }
 
 // Writes the curve and returns its length; if the curve is refused, the line for that.
-fn put_curve_or_refusal(out: &mut [u8; BUFFER], kept: Record, place: u64, memory: &Memory) -> usize
-    ensures { Stands (or_refused (curve_of kept (tables_in memory.now).histogram) place) out.new result }
+fn put_curve_or_refusal(
+    out: &mut [u8; BUFFER],
+    kept: Record,
+    place: u64,
+    counts: &[u64; 1026],
+    thresholds: &[u32; 1026],
+) -> usize
+    ensures { Stands (or_refused (curve_of kept (buckets_of counts.now thresholds.now)) place) out.new result }
 {
-    match text::put_curve(out, kept, &memory.counts, &memory.thresholds) {
+    match text::put_curve(out, kept, counts, thresholds) {
         Ok(count) => count,
         Err(why) => put_refusal(out, why, place),
     }
 }
 
 // Writes what is printed at the end of the input. Bytes left over are an incomplete event.
-fn put_end(out: &mut [u8; BUFFER], p: Pause, memory: &Memory) -> usize
-    ensures { Stands (last_text p.left p.place p.kept (tables_in memory.now).histogram) out.new result }
+fn put_end(
+    out: &mut [u8; BUFFER],
+    p: Pause,
+    counts: &[u64; 1026],
+    thresholds: &[u32; 1026],
+) -> usize
+    ensures { Stands (last_text p.left p.place p.kept (buckets_of counts.now thresholds.now)) out.new result }
 {
     if 0 < p.left {
         return put_refusal(out, Refusal::Short, p.place);
     }
-    put_curve_or_refusal(out, p.kept, p.place, memory)
+    put_curve_or_refusal(out, p.kept, p.place, counts, thresholds)
 }
 
 // Feeds the bytes left over and those that came after them. A refused event ends the program; otherwise the bytes that were not taken are
 // kept for the next read.
-fn after_bytes(turn: Turn, count: usize, buffer: &mut [u8; BUFFER], memory: &mut Memory) -> Next
+fn after_bytes(
+    turn: Turn,
+    count: usize,
+    buffer: &mut [u8; BUFFER],
+    locations: &mut [u64; 1024],
+    counts: &mut [u64; 1026],
+    thresholds: &mut [u32; 1026],
+) -> Next
     requires { turn.pause.left + count ≤ 65536 }
-    ensures { AfterBytes turn.pause (tables_in memory.old) buffer.old count result buffer.new (tables_in memory.new) }
+    ensures { AfterBytes turn.pause (tables_of locations.old counts.old thresholds.old) buffer.old count
+        result buffer.new (tables_of locations.new counts.new thresholds.new) }
 {
     let p = turn.pause;
     let end = p.left + count;
     let mut kept = p.kept;
-    let fed = feed::feed(
-        &mut kept,
-        &buffer[..end],
-        &mut memory.locations,
-        &mut memory.counts,
-        &mut memory.thresholds,
-    );
+    let fed = feed::feed(&mut kept, &buffer[..end], locations, counts, thresholds);
     let place = p.place + fed.taken as u64;
     let reads = p.reads;
     match fed.ending {
@@ -151,14 +157,24 @@ fn after_read(
     turn: Turn,
     got: io::Result<usize>,
     buffer: &mut [u8; BUFFER],
-    memory: &mut Memory,
+    locations: &mut [u64; 1024],
+    counts: &mut [u64; 1026],
+    thresholds: &mut [u32; 1026],
 ) -> io::Result<Next>
-    ensures { AfterRead turn.pause (tables_in memory.old) buffer.old (came_of got (length buffer.old - turn.pause.left)) result buffer.new (tables_in memory.new) }
+    ensures { AfterRead turn.pause (tables_of locations.old counts.old thresholds.old) buffer.old
+        (came_of got (length buffer.old - turn.pause.left)) result buffer.new (tables_of locations.new counts.new thresholds.new) }
 {
     let p = turn.pause;
     match got {
-        Ok(0) => Ok(ControlFlow::Break(put_end(buffer, p, memory))),
-        Ok(count) => Ok(after_bytes(turn, count.min(BUFFER - p.left), buffer, memory)),
+        Ok(0) => Ok(ControlFlow::Break(put_end(buffer, p, counts, thresholds))),
+        Ok(count) => Ok(after_bytes(
+            turn,
+            count.min(BUFFER - p.left),
+            buffer,
+            locations,
+            counts,
+            thresholds,
+        )),
         Err(error) if error.kind() == ErrorKind::Interrupted => Ok(ControlFlow::Continue(p)),
         Err(error) => Err(error),
     }
@@ -170,13 +186,16 @@ fn one_read(
     input: &mut Stdin,
     turn: Turn,
     buffer: &mut [u8; BUFFER],
-    memory: &mut Memory,
+    locations: &mut [u64; 1024],
+    counts: &mut [u64; 1026],
+    thresholds: &mut [u32; 1026],
 ) -> io::Result<Next>
-    ensures { OneRead turn.pause (tables_in memory.old) buffer.old result buffer.new (tables_in memory.new) }
+    ensures { OneRead turn.pause (tables_of locations.old counts.old thresholds.old) buffer.old
+        result buffer.new (tables_of locations.new counts.new thresholds.new) }
 {
     let p = turn.pause;
     let got = input.read(&mut buffer[p.left..]);
-    after_read(turn, got, buffer, memory)
+    after_read(turn, got, buffer, locations, counts, thresholds)
 }
 
 // Reads and feeds the input until there is a result. The promise is over some input: that these are the bytes of standard input is
@@ -185,9 +204,11 @@ fn follow(
     input: &mut Stdin,
     kept: Record,
     buffer: &mut [u8; BUFFER],
-    memory: &mut Memory,
+    locations: &mut [u64; 1024],
+    counts: &mut [u64; 1026],
+    thresholds: &mut [u32; 1026],
 ) -> Result<usize, Stop>
-    ensures { Tells (record { kept = kept; tables = tables_in memory.old }) result buffer.new (tables_in memory.new) }
+    ensures { Tells (tracker kept locations.old counts.old thresholds.old) result buffer.new (tables_of locations.new counts.new thresholds.new) }
 {
     let mut p = Pause {
         kept,
@@ -197,7 +218,14 @@ fn follow(
     };
     while p.place + p.reads < MOST_COUNTED {
         p.reads += 1;
-        match one_read(input, Turn { pause: p }, buffer, memory)? {
+        match one_read(
+            input,
+            Turn { pause: p },
+            buffer,
+            locations,
+            counts,
+            thresholds,
+        )? {
             ControlFlow::Continue(next) => p = next,
             ControlFlow::Break(count) => return Ok(count),
         }
@@ -219,16 +247,17 @@ fn first_settings() -> Settings
 }
 
 // Runs the program: the first setup, then the input.
-fn run(input: &mut Stdin, buffer: &mut [u8; BUFFER], memory: &mut Memory) -> Result<usize, Stop>
-    ensures { TellsOver (tables_in memory.old) result buffer.new (tables_in memory.new) }
+fn run(
+    input: &mut Stdin,
+    buffer: &mut [u8; BUFFER],
+    locations: &mut [u64; 1024],
+    counts: &mut [u64; 1026],
+    thresholds: &mut [u32; 1026],
+) -> Result<usize, Stop>
+    ensures { TellsOver (tables_of locations.old counts.old thresholds.old) result buffer.new (tables_of locations.new counts.new thresholds.new) }
 {
-    match setup::setup(
-        first_settings(),
-        &memory.locations,
-        &mut memory.counts,
-        &mut memory.thresholds,
-    ) {
-        Ok(kept) => follow(input, kept, buffer, memory),
+    match setup::setup(first_settings(), locations, counts, thresholds) {
+        Ok(kept) => follow(input, kept, buffer, locations, counts, thresholds),
         Err(why) => Ok(put_refusal(buffer, why, 0)),
     }
 }
@@ -249,12 +278,18 @@ fn tell(rt: HostRuntime, done: Result<usize, Stop>, buffer: &[u8]) -> io::Result
 }
 
 fn main(rt: HostRuntime) -> io::Result<()> {
-    let mut memory = Memory {
-        locations: [0; 1024],
-        counts: [0; 1026],
-        thresholds: [0; 1026],
-    };
+    // Three arrays, not one struct: the compiler does not know the fields of a struct to be apart here, and a fresh start would take twice
+    // the time.
+    let mut locations = [0; 1024];
+    let mut counts = [0; 1026];
+    let mut thresholds = [0; 1026];
     let mut buffer = [0; BUFFER];
-    let done = run(&mut rt.stdin(), &mut buffer, &mut memory);
+    let done = run(
+        &mut rt.stdin(),
+        &mut buffer,
+        &mut locations,
+        &mut counts,
+        &mut thresholds,
+    );
     tell(rt, done, &buffer)
 }
