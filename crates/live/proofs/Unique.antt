@@ -1,13 +1,15 @@
--- Any two results that a promise of this crate allows coincide: what is answered, and every lent table at exit. Assumes nothing.
+-- Any two results that a promise of this crate allows coincide: what is answered, and every lent slice at exit. Assumes nothing.
 use Prim.Native.Nat.{ℕ}
 use mathlib.Core.Path.{◌≡◌, sym, ap, ◌∙◌}
-use mathlib.Core.List.{List}
+use mathlib.Core.List.{List, ◌∷◌}
+use lib.ListN.{length, take}
 use Rattle.std.specs.Prelude.{Option}
 use Rattle.rules.specs.declared.Hashing.{Hashing}
 use Rattle.rules.specs.Settings.{hash_of}
-use Rattle.rules.specs.Reference.{first_place, largest}
+use Rattle.rules.specs.Lists.{over}
+use Rattle.rules.specs.Reference.{first_place, largest, keep_below, lowered}
 use Rattle.live.specs.declared.Lowered.{Lowered}
-use Rattle.live.specs.Live.{moved_to_front, remaining, remaining_of, lowering, lowering_of}
+use Rattle.live.specs.Live.{moved_to_front, remaining, remaining_of, lowering, staying, lowering_of}
 
 module _ (xs : List ℕ) where
   pub first_place_unique : (x : ℕ) (r s : Option ℕ) → r ≡ first_place x xs → s ≡ first_place x xs → r ≡ s
@@ -27,3 +29,17 @@ module _ (xs : List ℕ) where
     pub lower_unique : (t x : ℕ) (r s : Lowered) (ys zs : List ℕ) → lowering r ys ≡ lowering_of (hash_of h) t x xs
         → lowering s zs ≡ lowering_of (hash_of h) t x xs → (r ≡ s) × (ys ≡ zs)
     lower_unique t x r s ys zs e f = let g = e ∙ sym f in (ap (λ k. k.result) g, ap (λ k. k.table) g)
+
+  -- and where a table's first n entries are lent, the whole table (how it is left then: `kept_part`, `lowered_part` in Laws)
+  module _ (h : Hashing) (n : ℕ) where
+    pub keep_below_part_unique : (t r s : ℕ) (ys zs : List ℕ)
+        → remaining r ys ≡ remaining (length (keep_below (hash_of h) t (take n xs))) (over (keep_below (hash_of h) t (take n xs)) xs)
+        → remaining s zs ≡ remaining (length (keep_below (hash_of h) t (take n xs))) (over (keep_below (hash_of h) t (take n xs)) xs)
+        → (r ≡ s) × (ys ≡ zs)
+    keep_below_part_unique t r s ys zs e f = let g = e ∙ sym f in (ap (λ k. k.number) g, ap (λ k. k.table) g)
+
+    pub lower_part_unique : (t x : ℕ) (r s : Lowered) (ys zs : List ℕ)
+        → lowering r ys ≡ staying (hash_of h) (lowered (hash_of h) t (x ∷ take n xs)) (x ∷ take n xs) xs
+        → lowering s zs ≡ staying (hash_of h) (lowered (hash_of h) t (x ∷ take n xs)) (x ∷ take n xs) xs
+        → (r ≡ s) × (ys ≡ zs)
+    lower_part_unique t x r s ys zs e f = let g = e ∙ sym f in (ap (λ k. k.result) g, ap (λ k. k.table) g)
