@@ -24,7 +24,7 @@ fn blocks_in(offset: u64, length: u32) -> u64
 }
 
 // One reference. Most are Skipped, which `skip` finds out in few instructions. `refer` is called in this one place only, so that a program
-// in which nothing else calls it has it compiled into its loop, with the record in registers.
+// in which nothing else calls it has it compiled into its loop.
 fn refer_one(
     kept: &mut Record,
     location: u64,

@@ -25,14 +25,14 @@ use Rattle.rules.specs.Order.{Outcome, Judged, ◌when◌, says, leaves}
 use Rattle.rules.specs.Events.{settings_of, references_of, overrun}
 use Rattle.rules.specs.Layout.{Tracker, hash_for, profile_of, counted, stored, fresh_buckets, fresh_tables, fresh_record, fresh}
 use Rattle.rules.specs.Conditions.{buckets_too_short, too_short, torn_record, torn_at, torn_for, full, stale}
-use Rattle.rules.specs.Calls.{setup_order, setup_of, restart_order, restart_of, step_of, refer_order, refer_of, started_over, going_on, refer_all}
+use Rattle.rules.specs.Calls.{setup_order, setup_of, restart_order, restart_of, step_of, refer_order, refer_of, going_on, refer_all}
 use Rattle.rules.specs.Calls.{point_of, plot_of, apply_of}
 use Rattle.rules.specs.History.{Reference}
 use Rattle.rules.proofs.Tests.{cases, clash, or_left, or_right}
 use Rattle.rules.proofs.Order.{not_both, either, says_given, says_refused, leaves_was, leaves_both, says_before, says_behind, says_some}
 use Rattle.rules.proofs.Answers.{result_injective}
 use Rattle.rules.proofs.Bounds.{buckets_none_short}
-use Rattle.rules.proofs.Calls.{refer_accept, refer_either, sample_stored, point_torn, point_short, point_stale, plot_is}
+use Rattle.rules.proofs.Calls.{started_is, refer_accept, refer_either, sample_stored, point_torn, point_short, point_stale, plot_is}
 use Rattle.rules.proofs.Calls.{plotted as plotted-as}
 use Rattle.rules.proofs.Spans.{all_on, all_refused, all_none, span_overrun, span_refers}
 use Rattle.demands.specs.Refusing.{is_span, Untouched, InOrder, NeverZero, refer_all_order, apply_order, ApplyInOrder}
@@ -54,11 +54,6 @@ one_is : (order : List Judged) (r : Reply) (l : Tracker)
     → going_on (says order r) l (record { result = gives tt; left = l }) ≡ record { result = says order tt; left = l }
 one_is [] r l = refl
 one_is (j ∷ order) r l = cases j.holds (λ h. rw h) (λ h. rw h (one_is order r l))
-
-started_is : (order : List Judged) (kept r : Record) (t u : Tables) → started_over kept (says order r) (leaves order t u)
-    ≡ record { result = says order tt; left = leaves order (record { kept = kept; tables = t }) (record { kept = r; tables = u }) }
-started_is [] kept r t u = refl
-started_is (j ∷ order) kept r t u = cases j.holds (λ h. rw h) (λ h. rw h (started_is order kept r t u))
 
 apply_is : (e : Event) (s : Tracker) → is_span e ≡ false
     → apply_of e s ≡ record { result = says (apply_order e s) tt; left = leaves (apply_order e s) s (apply_after e s) }

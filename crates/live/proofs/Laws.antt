@@ -12,6 +12,7 @@ use lib.Dec.{eqb, ltb}
 use lib.ListN.{length, get_or, take, drop, set, length-set, length-append, length-take, drop_of_length-le, take-append-drop}
 use lib.Seq.{drop-cons, take-suc, take_all}
 use borrow.Author.Tests.{eq-eqb, ne_eqb, lt-ltb, le-ltb, ltb-true}
+use borrow.Rule.Slice.PartMut.{put_mid}
 use Rattle.std.specs.List.{copy_within}
 use Rattle.rules.specs.Lists.{keep, over}
 use Rattle.rules.specs.Reference.{first_from, first_place, to_front, under, largest, keep_below, lowered}
@@ -45,6 +46,15 @@ pub moved_some : (d x : ℕ) (xs : List ℕ) → d < length xs → set (copy_wit
 unfolding moved_to_front
 moved_some d x [] h = absurd (not-suc-le-zero h)
 moved_some d x (y ∷ xs) h = let e : d - 0 ≡ d = omega arith in let f : 1 + d ≡ suc d = omega arith in rw (lt-ltb _ _ h, e, f) refl
+
+-- (then nothing filled: so the deliberate bug that fills the list with one entry is refused for those it fills)
+pub moved_unfilled : (d x : ℕ) (xs ys : List ℕ) → d < length xs → length ys ≡ d - d
+    → set (put_mid d (d - d) (copy_within xs 0 d 1) ys) 0 x ≡ moved_to_front d x xs
+moved_unfilled d x xs [] h e =
+    let none : d - d ≡ 0 = omega arith in
+    let same : put_mid d 0 (copy_within xs 0 d 1) [] ≡ copy_within xs 0 d 1 = take-append-drop d (copy_within xs 0 d 1) in
+    rw (none, same) (moved_some d x xs h)
+moved_unfilled d x xs (y ∷ ys) h e = absurd (omega arith)
 
 pub moved_none : (d x : ℕ) (xs : List ℕ) → length xs ≤ d → xs ≡ moved_to_front d x xs
 unfolding moved_to_front

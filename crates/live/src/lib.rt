@@ -35,7 +35,7 @@ pub fn first_place(list: &[u64], location: u64) -> Option<usize>
 
 // Puts the location at the front. The entries before the place move back by one; the entry at the place is overwritten.
 // If the place is past the end, nothing changes.
-#[tactic(auto, using(crate::proofs::Laws::moved_some, crate::proofs::Laws::moved_none))]
+#[tactic(auto, using(crate::proofs::Laws::moved_some, crate::proofs::Laws::moved_unfilled, crate::proofs::Laws::moved_none))]
 pub fn to_front(locations: &mut [u64], place: usize, location: u64)
     ensures { locations.new ≡ moved_to_front place location locations.old }
 {

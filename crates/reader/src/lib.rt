@@ -56,8 +56,6 @@ pub fn whole_events(bytes: &[u8]) -> Front
     while reader.next().is_ok() {
         events += 1;
     }
-    Front {
-        events,
-        at: reader.at,
-    }
+    let at = reader.at;
+    Front { events, at }
 }

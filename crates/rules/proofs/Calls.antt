@@ -22,10 +22,10 @@ use Rattle.rules.specs.declared.Reply.{Reply}
 use Rattle.rules.specs.declared.Reply.TheVariants.{Skipped, First, Again}
 use Rattle.rules.specs.Curve.{total_of, plot_point}
 use Rattle.rules.specs.Answers.{refused, gives, Result}
-use Rattle.rules.specs.Order.{FirstAt, refusal_at, outcome, Outcome, says, Judged}
+use Rattle.rules.specs.Order.{FirstAt, refusal_at, outcome, Outcome, says, leaves, Judged}
 use Rattle.rules.specs.Layout.{Tracker, sample_of, hash_for, profile_of, counted, stored, fresh_tables, fresh_record}
 use Rattle.rules.specs.Conditions.{buckets_too_short, too_short, torn_record, torn_report, torn_for, full, stale}
-use Rattle.rules.specs.Calls.{setup_order, setup_of, restart_order, restart_of, step_of, refer_order, refer_of, point_order, point_of}
+use Rattle.rules.specs.Calls.{setup_order, setup_of, restart_order, restart_of, started_over, step_of, refer_order, refer_of, point_order, point_of}
 use Rattle.rules.specs.Calls.{point_on, own_shape, plot_of}
 use Rattle.rules.proofs.Tests.{cases}
 use Rattle.rules.proofs.Order.{not_both, either, says_refused, leaves_first, says_accepted}
@@ -97,6 +97,12 @@ module _ (kept : Record) (t : Tables) where
 
   pub restart_begins : (j : Record) → (restart_of kept t).result ≡ gives j → Begins kept.settings t (restart_of kept t)
   restart_begins j a = restart_either (λ w. w) (λ n e. absurd (not_both (ap (λ b. b.result) e) a))
+
+-- over a tracker, a start is refused as it is alone, and then leaves the record
+pub started_is : (order : List Judged) (kept r : Record) (t u : Tables) → started_over kept (says order r) (leaves order t u)
+    ≡ record { result = says order tt; left = leaves order (record { kept = kept; tables = t }) (record { kept = r; tables = u }) }
+started_is [] kept r t u = refl
+started_is (j ∷ order) kept r t u = cases j.holds (λ h. rw h) (λ h. rw h (started_is order kept r t u))
 
 -- ---- a reference
 
