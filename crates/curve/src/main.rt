@@ -278,8 +278,8 @@ fn tell(rt: HostRuntime, done: Result<usize, Stop>, buffer: &[u8]) -> io::Result
 }
 
 fn main(rt: HostRuntime) -> io::Result<()> {
-    // Three arrays, not one struct: the compiler does not know the fields of a struct to be apart here, and a fresh start would take twice
-    // the time.
+    // Three arrays, not one struct: the compiler does not know the fields of a struct to be apart here, and a fresh start with many buckets
+    // would take twice the time.
     let mut locations = [0; 1024];
     let mut counts = [0; 1026];
     let mut thresholds = [0; 1026];
